@@ -1,0 +1,7 @@
+pub mod Pieces
+pub mod Tokens
+pub mod Slashes
+pub mod Steps
+pub mod Derived
+pub mod Accepted
+pub mod ReadSoFar

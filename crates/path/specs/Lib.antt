@@ -1,0 +1,6 @@
+pub mod Steps
+pub mod Paths
+pub mod Pieces
+pub mod Tokens
+pub mod Reading
+pub mod Grammar

@@ -1,0 +1,6 @@
+// Path expressions: their steps, and reading them from a text.
+pub mod fault;
+pub mod path;
+pub mod read;
+pub mod step;
+pub mod token;
