@@ -3,6 +3,7 @@ ghost use mathlib.Core.Path.{_≡_};
 ghost use Prim.Native.Nat.{_≤_};
 ghost use lib.ListN.{length};
 
+pub mod compare;
 pub mod read;
 
 // The bytes of a text from `at` to its end.

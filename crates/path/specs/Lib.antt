@@ -4,3 +4,5 @@ pub mod Pieces
 pub mod Tokens
 pub mod Reading
 pub mod Grammar
+pub mod Codes
+pub mod CodedPaths

@@ -1,4 +1,5 @@
 // Path expressions: their steps, and reading them from a text.
+pub mod coded;
 pub mod fault;
 pub mod path;
 pub mod read;

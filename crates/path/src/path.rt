@@ -9,7 +9,6 @@ use crate::step::Step;
 pub mod steps;
 
 // One to eight steps: the first `count` of the row. No slash stands before the first.
-#[derive(Drop)]
 pub struct Path<L> {
     row: [Step<L>; 8],
     count: usize,
@@ -18,3 +17,5 @@ pub struct Path<L> {
     ghost most: { count ≤ 8 },
     ghost plain: { begins-plain row ≡ true },
 }
+
+impl<L: Copy> Copy for Path<L> {}

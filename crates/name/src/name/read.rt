@@ -77,10 +77,4 @@ impl Name {
         check_bytes(classes, part)?;
         Ok(copied(&part.text[part.at..], part.at))
     }
-
-    pub fn at(&self) -> usize
-        ensures { λ r. ⌜ r ≡ spot (now (self .entry)) .at ⌝ }
-    {
-        self.at
-    }
 }
