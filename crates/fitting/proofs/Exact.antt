@@ -2,16 +2,17 @@
 -- Assumes nothing.
 use mathlib.Core.Path.{_≡_, refl, sym, ap, _∙_, subst}
 use mathlib.Core.Bool.{Bool, true, false, _&&_, _||_}
-use mathlib.Core.List.{List, [], _∷_, _++_}
+use mathlib.Core.List.{List, [], _∷_, _++_, map}
 use mathlib.Core.Logic.{_⊎_, inl, inr, ⊎-elim}
 use Prim.Native.Nat.{ℕ}
-use lib.Dec.{eqb}
 use native.Mathlib.Omega.{arith}
-use Rattle.std.proofs.shelf.Tests.{and-from, and-parts, both-ways, cases-bool, eq-eqb, eqb-true, false≢true, or-cases, or-left, or-right}
+use Rattle.std.proofs.shelf.Tests.{and-from, and-parts, both-ways, cases-bool, false≢true, or-cases, or-left, or-right}
 use Rattle.std.proofs.shelf.Ways.{tells}
+use Rattle.std.specs.Orderings.{Decides}
 use Rattle.path.specs.declared.step.Step.{Step}
 use Rattle.path.specs.declared.step.Test.{Test}
 use Rattle.path.specs.declared.step.Test.the-variants.{Star, Name}
+use Rattle.path.specs.Reading.{named, step-named}
 use Rattle.fitting.specs.declared.fit.Ending.{Ending}
 use Rattle.fitting.specs.declared.fit.Ending.the-variants.{Closed, Open}
 use Rattle.fitting.specs.declared.fit.Fit.{Fit}
@@ -67,7 +68,7 @@ module _ {L : Type 0} (same : L → L → Bool) where
           takes-later s b _ _ deep (go tail bs (λ shallow. absurd (both-ways (s .deep) shallow deep)))
 
   -- an open ending: some last label makes it fit
-  some-last : (ss : List (Step L)) (ls : List L) (last : L) → fits same Closed ss (ls ++ last ∷ []) ≡ true → fits same Open ss ls ≡ true
+  pub some-last : (ss : List (Step L)) (ls : List L) (last : L) → fits same Closed ss (ls ++ last ∷ []) ≡ true → fits same Open ss ls ≡ true
   some-last [] [] last h = absurd (false≢true h)
   some-last (s ∷ []) [] last h = refl
   some-last (s ∷ t ∷ ss) [] last h = grind arith
@@ -109,31 +110,55 @@ module _ {L : Type 0} (same : L → L → Bool) where
         says true sound complete = sound refl
         says false sound complete = λ p. false≢true (complete p)
 
--- at label codes, the same labels are equal numbers
-module _ where
-  by-equation : (t : Test ℕ) (a : ℕ) → Passes (λ x y. eqb x y ≡ true) t a → Passes _≡_ t a
+-- what is stood for by one rule of passing is stood for by another that follows
+stands-by : {L : Type 0} (R S : L → L → Type 0) → ((t : Test L) (a : L) → Passes R t a → Passes S t a) → (ss : List (Step L)) (ls : List L) → Stands-for R ss ls → Stands-for S ss ls
+stands-by R S f [] ls h = h
+stands-by R S f (s ∷ ss) ls (between, a, rest, e, plain, p, more) = (between, a, rest, e, plain, f (s .test) a p, stands-by R S f ss rest more)
+
+fits-by : {L : Type 0} (R S : L → L → Type 0) → ((t : Test L) (a : L) → Passes R t a → Passes S t a) → (e : Ending) (ss : List (Step L)) (ls : List L) → Fits-path R e ss ls → Fits-path S e ss ls
+fits-by R S f Closed ss ls h = stands-by R S f ss ls h
+fits-by R S f Open ss ls (last, h) = (last, stands-by R S f ss (ls ++ last ∷ []) h)
+
+says-by : {P Q : Type 0} (r : Fit) → (P → Q) → (Q → P) → Says r P → Says r Q
+says-by Yes to from p = to p
+says-by No to from p = λ q. p (from q)
+
+-- where the test of labels decides equality
+module _ {L : Type 0} (same : L → L → Bool) (decides : (x y : L) → Decides (same x y) (x ≡ y)) where
+  by-equation : (t : Test L) (a : L) → Passes (λ x y. same x y ≡ true) t a → Passes _≡_ t a
   by-equation Star a h = h
-  by-equation (Name b) a h = eqb-true b a h
+  by-equation (Name b) a h = decides b a .0 h
 
-  by-test : (t : Test ℕ) (a : ℕ) → Passes _≡_ t a → Passes (λ x y. eqb x y ≡ true) t a
+  by-test : (t : Test L) (a : L) → Passes _≡_ t a → Passes (λ x y. same x y ≡ true) t a
   by-test Star a h = h
-  by-test (Name b) a h = eq-eqb b a h
+  by-test (Name b) a h = decides b a .1 h
 
-  -- what is stood for by one rule of passing is stood for by another that follows
-  stands-by : {L : Type 0} (R S : L → L → Type 0) → ((t : Test L) (a : L) → Passes R t a → Passes S t a) → (ss : List (Step L)) (ls : List L) → Stands-for R ss ls → Stands-for S ss ls
-  stands-by R S f [] ls h = h
-  stands-by R S f (s ∷ ss) ls (between, a, rest, e, plain, p, more) = (between, a, rest, e, plain, f (s .test) a p, stands-by R S f ss rest more)
-
-  fits-by : {L : Type 0} (R S : L → L → Type 0) → ((t : Test L) (a : L) → Passes R t a → Passes S t a) → (e : Ending) (ss : List (Step L)) (ls : List L) → Fits-path R e ss ls → Fits-path S e ss ls
-  fits-by R S f Closed ss ls h = stands-by R S f ss ls h
-  fits-by R S f Open ss ls (last, h) = (last, stands-by R S f ss (ls ++ last ∷ []) h)
-
-  says-by : {P Q : Type 0} (r : Fit) → (P → Q) → (Q → P) → Says r P → Says r Q
-  says-by Yes to from p = to p
-  says-by No to from p = λ q. p (from q)
-
-  pub fits-codes-exactly : (e : Ending) (ss : List (Step ℕ)) (ls : List ℕ) (r : Fit) → r ≡ verdict (fits eqb e ss ls) → Says r (Fits-path _≡_ e ss ls)
-  fits-codes-exactly e ss ls r answer =
-      let R : ℕ → ℕ → Type 0 = λ x y. eqb x y ≡ true in
+  pub fits-by-equation : (some : L) (e : Ending) (ss : List (Step L)) (ls : List L) (r : Fit) → r ≡ verdict (fits same e ss ls) → Says r (Fits-path _≡_ e ss ls)
+  fits-by-equation some e ss ls r answer =
+      let R : L → L → Type 0 = λ x y. same x y ≡ true in
       says-by r (fits-by R _≡_ by-equation e ss ls) (fits-by _≡_ R by-test e ss ls)
-        (subst (λ (r : Fit). Says r (Fits-path R e ss ls)) (sym answer) (fits-exactly eqb (λ x. eq-eqb x x refl) 0 e ss ls))
+        (subst (λ (r : Fit). Says r (Fits-path R e ss ls)) (sym answer) (fits-exactly same (λ x. decides x x .1 refl) some e ss ls))
+
+-- labels compared by what f says of them
+module _ {K L : Type 0} (same : L → L → Bool) (f : K → L) where
+  ends-named : (e : Ending) (ss : List (Step K)) → ends same e (map (step-named f) ss) ≡ ends (λ x y. same (f x) (f y)) e ss
+  ends-named Closed [] = refl
+  ends-named Closed (s ∷ ss) = refl
+  ends-named Open [] = refl
+  ends-named Open (s ∷ []) = refl
+  ends-named Open (s ∷ t ∷ ss) = refl
+
+  passes-named : (t : Test K) (a : K) → passes same (named f t) (f a) ≡ passes (λ x y. same (f x) (f y)) t a
+  passes-named Star a = refl
+  passes-named (Name b) a = refl
+
+  pub fits-named : (e : Ending) (ss : List (Step K)) (ls : List K) → fits same e (map (step-named f) ss) (map f ls) ≡ fits (λ x y. same (f x) (f y)) e ss ls
+  fits-named e ss [] = ends-named e ss
+  fits-named e [] (a ∷ ls) = refl
+  fits-named e (s ∷ ss) (a ∷ ls) =
+      let onward = fits-named e ss ls in
+      let here = fits-named e (s ∷ ss) ls in
+      let now = passes-named (s .test) a in
+      ap (λ (b : Bool). (passes same (named f (s .test)) (f a) && b) || (s .deep && fits same e (map (step-named f) (s ∷ ss)) (map f ls))) onward
+      ∙ (ap (λ (b : Bool). (passes same (named f (s .test)) (f a) && fits (λ x y. same (f x) (f y)) e ss ls) || (s .deep && b)) here
+      ∙ ap (λ (b : Bool). (b && fits (λ x y. same (f x) (f y)) e ss ls) || (s .deep && fits (λ x y. same (f x) (f y)) e (s ∷ ss) ls)) now)

@@ -1,2 +1,4 @@
 pub mod Bytes
 pub mod Names
+pub mod Parts
+pub mod Refusals

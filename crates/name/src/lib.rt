@@ -2,3 +2,4 @@
 pub mod classes;
 pub mod fault;
 pub mod name;
+pub mod told;

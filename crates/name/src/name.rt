@@ -4,6 +4,7 @@ ghost use Prim.Native.Nat.{_≤_};
 ghost use lib.ListN.{length};
 
 pub mod compare;
+pub mod cut;
 pub mod read;
 
 // The bytes of a text from `at` to its end.

@@ -22,13 +22,9 @@ use Rattle.path.specs.Grammar.{Accepts-paths, Path-text, one, child, deep, wri
 use Rattle.path.specs.Pieces.{piece, at-slash}
 use Rattle.path.specs.Reading.{add-step, onward, read-path, step, step-named, step-test, steps-after}
 use Rattle.path.proofs.Derived.{path-derived}
+use Rattle.path.proofs.Pieces.{one-piece, piece-append, slash-free}
 use Rattle.path.proofs.Slashes.{at-none, at-one, at-two, passes-piece}
-use Rattle.path.proofs.Steps.{Step-read, add-step-from, add-step-parts, by-bytes, one-piece, slash-free, step-accepted}
-
--- what stands behind a slash does not change the piece before it
-piece-append : (p f : List ℕ) → piece (p ++ 47 ∷ f) ≡ piece p
-piece-append [] f = refl
-piece-append (b ∷ bs) f = let t = piece-append bs f in grind (arith, tells)
+use Rattle.path.proofs.Steps.{Step-read, add-step-from, add-step-parts, by-bytes, step-accepted}
 
 module _ (c : Classes) where
   -- behind a text whose steps are read, reading goes on at a slash

@@ -8,7 +8,7 @@ use Prim.Native.Nat.{ℕ, zero, suc, _+_, _<_, _≤_}
 use native.Mathlib.Omega.{arith}
 use lib.Dec.{eqb}
 use lib.ListN.{length, drop, take, length-drop}
-use Rattle.std.proofs.shelf.Lists.{append-assoc, append-nil, take-append-drop}
+use Rattle.std.proofs.shelf.Lists.{append-assoc, append-nil}
 use Rattle.std.proofs.shelf.Tests.{cases-bool, eqb-true, false≢true}
 use Rattle.std.proofs.shelf.Ways.{tells}
 use Rattle.std.specs.declared.result.Result.{Result}
@@ -21,13 +21,9 @@ use Rattle.path.specs.declared.step.Test.{Test}
 use Rattle.path.specs.Grammar.{Path-text, one, child, deep, written}
 use Rattle.path.specs.Pieces.{piece, at-slash}
 use Rattle.path.specs.Reading.{add-step, read-path, step, step-test, steps-after}
-use Rattle.path.proofs.Pieces.{piece-is-front, piece-stops, piece-within}
+use Rattle.path.proofs.Pieces.{piece-and-rest, piece-stops}
 use Rattle.path.proofs.Slashes.{at-one, at-two, passes-piece}
 use Rattle.path.proofs.Steps.{add-step-parts, by-bytes, step-derived}
-
--- a text is its first piece and what stands behind it
-piece-and-rest : (bs : List ℕ) → piece bs ++ drop (length (piece bs)) bs ≡ bs
-piece-and-rest bs = ap (λ (p : List ℕ). p ++ drop (length (piece bs)) bs) (sym (piece-is-front bs)) ∙ take-append-drop (length (piece bs)) bs
 
 module _ (c : Classes) where
   -- the text p may go on with bs, which say the steps ss

@@ -21,7 +21,8 @@ use Rattle.path.specs.declared.step.Test.{Test}
 use Rattle.path.specs.Pieces.{piece, at-slash}
 use Rattle.path.specs.Reading.{add-step, next-test, onward, read-behind, step, steps-after}
 use Rattle.path.specs.Tokens.{Shape, child, deep, slash, token-at}
-use Rattle.path.proofs.Pieces.{piece-stops, piece-within}
+use Rattle.name.proofs.Fronts.{before-within}
+use Rattle.path.proofs.Pieces.{piece-stops}
 
 -- one slash, or two, stand at the front
 pub child-begins : (at : ℕ) (bs : List ℕ) → token-at at bs ≡ child → 0 < length bs
@@ -129,7 +130,7 @@ module _ (c : Classes) where
         let few : n < 8 = ⊎-elim (λ lt. lt) (λ ge. absurd (never-ninth ge e)) (cases-lt n 8) in
         let some : place < length text = ⊎-elim (λ lt. lt) (λ ge. absurd (never-empty (drop-all place text ge) e)) (cases-lt place (length text)) in
         let size = length-drop place text in
-        let within = piece-within rest in
+        let within = before-within 47 rest in
         let same = go (next-test c n place (piece rest)) e in
         let stop-is = same .1 in
         let slash = ap at-slash (ap (λ (k : ℕ). drop k text) stop-is ∙ sym (drop-drop (length (piece rest)) place text)) in

@@ -23,19 +23,11 @@ use Rattle.path.specs.declared.step.Test.{Test}
 use Rattle.path.specs.declared.step.Test.the-variants as test
 use Rattle.path.specs.Grammar.{Step-text, star, name}
 use Rattle.path.specs.Pieces.{piece}
+use Rattle.path.proofs.Pieces.{slash-free}
 use Rattle.path.specs.Reading.{add-step, excess, in-path, named, next-test, onward, star-test, step, step-test}
 
 abbrev pub by-bytes : Test Spot → Test (List ℕ)
 by-bytes t = named (λ s. s .bytes) t
-
--- a text without a slash is one piece
-abbrev pub slash-free : List ℕ → Bool
-slash-free [] = true
-slash-free (b ∷ bs) = cond (eqb b 47) false (slash-free bs)
-
-pub one-piece : (bs : List ℕ) → slash-free bs ≡ true → piece bs ≡ bs
-one-piece [] h = refl
-one-piece (b ∷ bs) h = let t : slash-free bs ≡ true → piece bs ≡ bs = one-piece bs in grind (arith, tells)
 
 -- an accepted list of steps: its first step and the others
 pub add-step-parts : (c : Classes) (n at : ℕ) (d : Bool) (bs : List ℕ) (r : Result (List (Step Spot)) PathFault) (ss : List (Step Spot)) → add-step c n d at bs r ≡ Ok ss
@@ -87,6 +79,13 @@ following-slash-free c (b ∷ bs) h =
     let outside = ap follows (c .slash) in
     ⊎-elim (λ yes. absurd (false≢true (sym outside ∙ (ap (λ (k : ℕ). follows (class-of c k)) (sym (eqb-true b 47 yes)) ∙ p .0)))) (λ nope. rw nope t) (cases-bool (eqb b 47))
 
+pub name-slash-free : (c : Classes) (bs : List ℕ) → Is-name c bs → slash-free bs ≡ true
+name-slash-free c [] (a, le) = absurd (false≢true a)
+name-slash-free c (b ∷ bs) (a, le) =
+    let p = and-parts _ _ a in
+    let outside = ap begins (c .slash) in
+    ⊎-elim (λ hit. absurd (false≢true (sym outside ∙ (ap (λ (k : ℕ). begins (class-of c k)) (sym (eqb-true b 47 hit)) ∙ p .0)))) (λ miss. rw miss (following-slash-free c bs (p .1))) (cases-bool (eqb b 47))
+
 -- what the grammar derives as a step, reading accepts, at any offset
 pub record Step-read (c : Classes) (at : ℕ) (f : List ℕ) (t : Test (List ℕ)) : Type 0 where
   pub said : Test Spot
@@ -104,14 +103,12 @@ step-accepted c at (name {bs} h) = as-name bs h
     as-name (b ∷ bs) (a, le) =
         let p = and-parts _ _ a in
         let star-outside = ap begins (c .star) in
-        let slash-outside = ap begins (c .slash) in
         let not-star : eqb b 42 ≡ false = ⊎-elim (λ yes. absurd (false≢true (sym star-outside ∙ (ap (λ (k : ℕ). begins (class-of c k)) (sym (eqb-true b 42 yes)) ∙ p .0)))) (λ nope. nope) (cases-bool (eqb b 42)) in
-        let not-slash : eqb b 47 ≡ false = ⊎-elim (λ yes. absurd (false≢true (sym slash-outside ∙ (ap (λ (k : ℕ). begins (class-of c k)) (sym (eqb-true b 47 yes)) ∙ p .0)))) (λ nope. nope) (cases-bool (eqb b 47)) in
         let reading = name-reads c at (b ∷ bs) (a, le) in
         record {
           said = test.Name (record { bytes = b ∷ bs; at = at });
           reads = rw (not-star, reading) refl;
           says = refl;
-          free = rw not-slash (following-slash-free c bs (p .1));
+          free = name-slash-free c (b ∷ bs) (a, le);
           some = omega arith;
         }

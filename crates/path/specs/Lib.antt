@@ -6,3 +6,4 @@ pub mod Reading
 pub mod Grammar
 pub mod Codes
 pub mod CodedPaths
+pub mod Refusals

@@ -4,14 +4,14 @@
 --   at-slash bs    bs is empty or begins with a slash
 --
 -- Assumes nothing.
-use mathlib.Core.Bool.{Bool, true, cond}
+use mathlib.Core.Bool.{Bool, true}
 use mathlib.Core.List.{List, [], _∷_}
 use Prim.Native.Nat.{ℕ}
 use lib.Dec.{eqb}
+use Rattle.name.specs.Parts.{before}
 
 abbrev pub piece : List ℕ → List ℕ
-piece [] = []
-piece (b ∷ bs) = cond (eqb b 47) [] (b ∷ piece bs)
+piece bs = before 47 bs
 
 abbrev pub at-slash : List ℕ → Bool
 at-slash [] = true

@@ -5,3 +5,4 @@ pub mod path;
 pub mod read;
 pub mod step;
 pub mod token;
+pub mod told;

@@ -1,26 +1,10 @@
 // The token that a text begins with.
 ghost use mathlib.Core.Path.{_≡_};
-ghost use Prim.Native.Nat.{_+_, _≤_};
-ghost use lib.ListN.{drop, length};
 ghost use Rattle.std.specs.Options.{mapped};
 ghost use Rattle.name.specs.Names.{bytes-of};
-ghost use Rattle.path.specs.Pieces.{piece};
 ghost use Rattle.path.specs.Tokens.{shape, sign-at, token-at};
 use crate::token::Token;
 use name::name::Part;
-
-// Where the bytes from `at` to the next slash end.
-fn piece_end(text: &[u8], at: usize) -> usize
-    requires { ⌜ at ≤ length (now text) ⌝ }
-    ensures { λ r. ⌜ r ≡ at + length (piece (drop at (now (text .entry)))) ⌝ }
-{
-    for place in at..text.len() {
-        if text[place] == b'/' {
-            return place;
-        }
-    }
-    text.len()
-}
 
 // The slashes or the star that the bytes begin with, or their end; none where they begin with a name.
 fn sign(rest: &[u8]) -> Option<Token<'_>>
@@ -44,7 +28,7 @@ pub fn first_token(part: Part) -> Token
     match sign(&part.text[part.at..]) {
         Some(token) => token,
         None => Token::Name(Part {
-            text: &part.text[0..piece_end(part.text, part.at)],
+            text: &part.text[0..part.end_before(b'/')],
             at: part.at,
         }),
     }

@@ -46,8 +46,8 @@ pub returns : need.returns
 returns g c e ls h =
     let w = c .args .places in
     let ss = c .steps-steps .result .now in
-    let d : Step _ = record { deep = false; test = Star } in
     let all : c .loop-k .k ≡ length ss = omega arith in
+    let d : Step _ = record { deep = false; test = Star } in
     let T : List (Step _) → ℕ → Bool = λ xs k. ltb k (length xs) && takes (g .L·Label .same) (getD xs k d) (c .args .label .now) (bit w (k + 1)) (bit w k) in
     let made : (k : ℕ) → bit (c .loop-k .next) k ≡ T ss k = λ k. c .loop-k .inv k d ∙ ap (λ (n : ℕ). ltb k n && takes (g .L·Label .same) (getD ss k d) (c .args .label .now) (bit w (k + 1)) (bit w k)) all in
     goes-back (g .L·Label .same) e (steps-of (c .args .path .now)) ls (c .args .label .now) w (c .loop-k .next) d h

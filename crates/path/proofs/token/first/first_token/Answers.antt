@@ -7,7 +7,7 @@ use lib.ListN.{drop, length-drop}
 use Rattle.std.proofs.shelf.Lists.{drop-all, take-rest}
 use Rattle.path.specs.Pieces.{piece}
 use Rattle.path.specs.Tokens.{Shape, name, sign-at, token-at}
-use Rattle.path.proofs.Pieces.{piece-within, piece-between}
+use Rattle.name.proofs.Fronts.{before-between, before-within}
 use Rattle.path.proofs.token.first.first_token.Needs as need
 
 pub returns-then-part : need.returns-then-part
@@ -16,7 +16,7 @@ returns-then-part c = sym (ap (token-at (c .args .part .at)) (drop-all (c .args 
 pub part-result-end : need.part-result-end
 part-result-end c =
     let rest = drop (c .args .part .at) (c .args .part .text .now) in
-    let within = piece-within rest in
+    let within = before-within 47 rest in
     let size = length-drop (c .args .part .at) (c .args .part .text .now) in
     search needs
 
@@ -30,5 +30,5 @@ pub returns-in-None : need.returns-in-None
 returns-in-None c =
     let p = c .args .part in
     let none = c .in-None .ensures tt ∙ ap sign-at (take-rest (p .text .now) (p .at)) in
-    let bytes = piece-between (p .text .now) (p .at) (c .piece-end .result) (c .piece-end .ensures) in
+    let bytes = before-between 47 (p .text .now) (p .at) (c .end-before .result) (c .end-before .ensures) in
     ap (λ (bs : List ℕ). name bs (p .at)) bytes ∙ grind arith

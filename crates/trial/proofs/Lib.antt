@@ -1,0 +1,3 @@
+pub mod Label
+pub mod LabelPaths
+pub mod Joined
