@@ -1,3 +1,5 @@
 pub mod Label
 pub mod LabelPaths
 pub mod Joined
+pub mod Tried
+pub mod Fields

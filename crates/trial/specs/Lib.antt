@@ -1,2 +1,6 @@
 pub mod Rows
 pub mod Labels
+pub mod Tries
+pub mod Refusals
+pub mod Lines
+pub mod Replies

@@ -1,2 +1,7 @@
 // Trying a written label path against an expression, without a tree.
+pub mod fault;
 pub mod labels;
+pub mod line;
+pub mod reply;
+pub mod told;
+pub mod tries;

@@ -1,0 +1,2 @@
+// Lines of any length in a fixed amount of memory.
+pub mod line;
