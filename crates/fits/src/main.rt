@@ -16,7 +16,12 @@ fn answer(classes: &Classes, line: &Line, output: &mut String) -> Result<(), Any
 }
 
 // Takes in the bytes of one read, and answers each line that they end.
-fn take_in(classes: &Classes, bytes: &[u8], line: &mut Line, output: &mut String) -> Result<(), AnyError> {
+fn take_in(
+    classes: &Classes,
+    bytes: &[u8],
+    line: &mut Line,
+    output: &mut String,
+) -> Result<(), AnyError> {
     for byte in bytes {
         if *byte == b'\n' {
             answer(classes, line, output)?;

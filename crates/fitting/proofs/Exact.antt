@@ -49,9 +49,9 @@ module _ {L : Type 0} (same : L → L → Bool) where
   stood-for (s ∷ ss) [] h = absurd (false≢true h)
   stood-for (s ∷ ss) (a ∷ ls) h =
       ⊎-elim
-        (λ p. ([], a, ls, refl, (λ _. refl), passed (s .test) a (p .0), stood-for ss ls (p .1)))
-        (λ p. later (p .0) (stood-for (s ∷ ss) ls (p .1)))
-        (taken s a _ _ h)
+      (λ p. ([], a, ls, refl, (λ _. refl), passed (s .test) a (p .0), stood-for ss ls (p .1)))
+      (λ p. later (p .0) (stood-for (s ∷ ss) ls (p .1)))
+      (taken s a _ _ h)
     where
       later : s .deep ≡ true → Stands-for Same (s ∷ ss) ls → Stands-for Same (s ∷ ss) (a ∷ ls)
       later deep (between, x, rest, e, plain, p, more) = (a ∷ between, x, rest, ap (λ (xs : List L). a ∷ xs) e, (λ shallow. absurd (both-ways (s .deep) shallow deep)), p, more)
@@ -75,9 +75,9 @@ module _ {L : Type 0} (same : L → L → Bool) where
   some-last [] (a ∷ ls) last h = absurd (false≢true h)
   some-last (s ∷ ss) (a ∷ ls) last h =
       ⊎-elim
-        (λ p. takes-now s a _ _ (p .0) (some-last ss ls last (p .1)))
-        (λ p. takes-later s a _ _ (p .0) (some-last (s ∷ ss) ls last (p .1)))
-        (taken s a _ _ h)
+      (λ p. takes-now s a _ _ (p .0) (some-last ss ls last (p .1)))
+      (λ p. takes-later s a _ _ (p .0) (some-last (s ∷ ss) ls last (p .1)))
+      (taken s a _ _ h)
 
   module _ (reflexive : (x : L) → same x x ≡ true) (some : L) where
     passes-some : (t : Test L) → (a : L) × (passes same t a ≡ true)
@@ -91,9 +91,9 @@ module _ {L : Type 0} (same : L → L → Bool) where
     last-found [] (a ∷ ls) h = absurd (false≢true h)
     last-found (s ∷ ss) (a ∷ ls) h =
         ⊎-elim
-          (λ p. let (last, q) = last-found ss ls (p .1) in (last, takes-now s a _ _ (p .0) q))
-          (λ p. let (last, q) = last-found (s ∷ ss) ls (p .1) in (last, takes-later s a _ _ (p .0) q))
-          (taken s a _ _ h)
+        (λ p. let (last, q) = last-found ss ls (p .1) in (last, takes-now s a _ _ (p .0) q))
+        (λ p. let (last, q) = last-found (s ∷ ss) ls (p .1) in (last, takes-later s a _ _ (p .0) q))
+        (taken s a _ _ h)
 
     fits-sound : (e : Ending) (ss : List (Step L)) (ls : List L) → fits same e ss ls ≡ true → Fits-path Same e ss ls
     fits-sound Closed ss ls h = stood-for ss ls h
@@ -137,7 +137,7 @@ module _ {L : Type 0} (same : L → L → Bool) (decides : (x y : L) → Decides
   fits-by-equation some e ss ls r answer =
       let R : L → L → Type 0 = λ x y. same x y ≡ true in
       says-by r (fits-by R _≡_ by-equation e ss ls) (fits-by _≡_ R by-test e ss ls)
-        (subst (λ (r : Fit). Says r (Fits-path R e ss ls)) (sym answer) (fits-exactly same (λ x. decides x x .1 refl) some e ss ls))
+      (subst (λ (r : Fit). Says r (Fits-path R e ss ls)) (sym answer) (fits-exactly same (λ x. decides x x .1 refl) some e ss ls))
 
 -- labels compared by what f says of them
 module _ {K L : Type 0} (same : L → L → Bool) (f : K → L) where

@@ -43,7 +43,7 @@ module _ {L : Type 0} (same : L → L → Bool) where
 
   -- one label more, in front of the others: the word r has each place that takes it
   pub goes-back : (e : Ending) (ss : List (Step L)) (ls : List L) (a : L) (w r : ℕ) (d : Step L) → Reads same e ss ls w
-    → ((k : ℕ) → bit r k ≡ (ltb k (length ss) && takes same (getD ss k d) a (bit w (k + 1)) (bit w k))) → Reads same e ss (a ∷ ls) r
+      → ((k : ℕ) → bit r k ≡ (ltb k (length ss) && takes same (getD ss k d) a (bit w (k + 1)) (bit w k))) → Reads same e ss (a ∷ ls) r
   goes-back e ss ls a w r d h is k le = ⊎-elim inside outside (cases-lt k (length ss))
     where
       inside : k < length ss → bit r k ≡ fits same e (drop k ss) (a ∷ ls)
@@ -53,7 +53,8 @@ module _ {L : Type 0} (same : L → L → Bool) where
           let here : bit w k ≡ fits same e (getD ss k d ∷ drop (k + 1) ss) ls = h k le ∙ ap (λ (xs : List (Step L)). fits same e xs ls) split in
           let whole : fits same e (drop k ss) (a ∷ ls) ≡ takes same (getD ss k d) a (fits same e (drop (k + 1) ss) ls) (fits same e (getD ss k d ∷ drop (k + 1) ss) ls) = ap (λ (xs : List (Step L)). fits same e xs (a ∷ ls)) split in
           is k ∙ (ap (λ (b : Bool). b && takes same (getD ss k d) a (bit w (k + 1)) (bit w k)) (lt-ltb _ _ lt)
-            ∙ (ap (λ (b : Bool). takes same (getD ss k d) a b (bit w k)) onward ∙ (ap (takes same (getD ss k d) a (fits same e (drop (k + 1) ss) ls)) here ∙ sym whole)))
+          ∙ (ap (λ (b : Bool). takes same (getD ss k d) a b (bit w k)) onward ∙ (ap (takes same (getD ss k d) a (fits same e (drop (k + 1) ss) ls)) here ∙ sym whole)))
+
       outside : length ss ≤ k → bit r k ≡ fits same e (drop k ss) (a ∷ ls)
       outside ge =
           let none : fits same e (drop k ss) (a ∷ ls) ≡ false = ap (λ (xs : List (Step L)). fits same e xs (a ∷ ls)) (drop-all k ss ge) in

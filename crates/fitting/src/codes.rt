@@ -15,5 +15,5 @@ pub fn fits_codes(labels: &[u16], ending: Ending, path: &CodedPath) -> Fit
     ensures answer { λ r. ⌜ r ≡ verdict (fits eqb ending (code-steps (now (path .entry))) (now (labels .entry))) ⌝ }
     ensures means { λ r. ⌜ Says r (Fits-path _≡_ ending (code-steps (now (path .entry))) (now (labels .entry))) ⌝ }
 {
-    fits(labels, ending, path.path())
+    fits(labels, ending, &path.path)
 }

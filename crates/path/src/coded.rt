@@ -10,6 +10,6 @@ pub mod make;
 // Each name in it is a label's code, which is at least 1.
 #[derive(Clone, Copy)]
 pub struct CodedPath {
-    path: Path<u16>,
+    pub path: Path<u16>,
     ghost codes: { coded (steps-of path) ≡ true },
 }

@@ -62,6 +62,6 @@ tries-fields c line ls es whole (free, some) (clear, more) short =
     let both = has-both c line short (λ z. omega (arith, ap length one)) (λ z. omega (arith, ap length two)) in
     let tried = in-line (try-answer c 0 (first line) (second-at line) (second line)) in
     both ∙ (ap (λ (b : Bool). onward tried (λ fit. cond b (Err (Field (second-at line + length (second line) + 1))) (Ok fit))) end
-      ∙ (told-whole tried
-      ∙ (ap (λ (bs : List ℕ). in-line (try-answer c 0 bs (second-at line) (second line))) one
-      ∙ (ap (λ (k : ℕ). in-line (try-answer c 0 ls k (second line))) at ∙ ap (λ (bs : List ℕ). in-line (try-answer c 0 ls (length ls + 1) bs)) two))))
+    ∙ (told-whole tried
+    ∙ (ap (λ (bs : List ℕ). in-line (try-answer c 0 bs (second-at line) (second line))) one
+    ∙ (ap (λ (k : ℕ). in-line (try-answer c 0 ls k (second line))) at ∙ ap (λ (bs : List ℕ). in-line (try-answer c 0 ls (length ls + 1) bs)) two))))

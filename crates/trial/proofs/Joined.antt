@@ -61,8 +61,9 @@ label-parts c n at (b ∷ bs) r ls e =
   where
     never : Err (excess c at b) ≡ Ok ls → ⊥
     never e = let z : _≡_ {A = ℕ} 0 1 = cc in omega arith
+
     as-name : ltb n 16 ≡ true → (q : Result Spot NameFault) → read-name c at (b ∷ bs) ≡ q → (r′ : Result (List Spot) PathFault) → r ≡ r′
-      → onward (in-path q) (λ l. onward r′ (λ ls. Ok (l ∷ ls))) ≡ Ok ls → Label-parts c n (b ∷ bs) r ls
+        → onward (in-path q) (λ l. onward r′ (λ ls. Ok (l ∷ ls))) ≡ Ok ls → Label-parts c n (b ∷ bs) r ls
     as-name lt (Ok l) a (Ok rest) b′ e =
         let g = read-gives c at (b ∷ bs) l a in
         record { label = l; rest = rest; few = ltb-true n 16 lt; bytes = g .0; named = g .1; behind = b′; is = cc }
@@ -73,11 +74,11 @@ module _ (c : Classes) where
   -- labels that are read from a slash on: k bounds the length of what is left
   abbrev Reads-names : ℕ → Type 0
   Reads-names k = (n at : ℕ) (bs : List ℕ) (ls : List Spot) → length bs ≤ k → n ≤ 16 → at-slash bs ≡ true → labels-after c n at bs ≡ Ok ls
-    → (slashed (written ls) ≡ bs) × All-names c (written ls) × (n + length ls ≤ 16)
+      → (slashed (written ls) ≡ bs) × All-names c (written ls) × (n + length ls ≤ 16)
 
   -- the same from a label on
   first-then : (k : ℕ) → Reads-names k → (n at : ℕ) (r : List ℕ) (ls : List Spot) → length r ≤ k → add-label c n at r (labels-after c (suc n) at r) ≡ Ok ls
-    → (l : List ℕ) × (rest : List Spot) × (written ls ≡ l ∷ written rest) × (l ++ slashed (written rest) ≡ r) × All-names c (written ls) × (n + length ls ≤ 16)
+      → (l : List ℕ) × (rest : List Spot) × (written ls ≡ l ∷ written rest) × (l ++ slashed (written rest) ≡ r) × All-names c (written ls) × (n + length ls ≤ 16)
   first-then k go n at r ls le e =
       let p = label-parts c n at (piece r) (labels-after c (suc n) at r) ls e in
       let left = drop (length (piece r)) r in
@@ -95,12 +96,12 @@ module _ (c : Classes) where
 
   -- one label more in front of those that are read
   one-more : (n at : ℕ) (k rest : List ℕ) (ls : List Spot) → n < 16 → Is-name c k → at-slash rest ≡ true → labels-after c (suc n) (at + length k) rest ≡ Ok ls
-    → add-label c n at (k ++ rest) (labels-after c (suc n) at (k ++ rest)) ≡ Ok (record { bytes = k; at = at } ∷ ls)
+      → add-label c n at (k ++ rest) (labels-after c (suc n) at (k ++ rest)) ≡ Ok (record { bytes = k; at = at } ∷ ls)
   one-more n at k rest ls lt name stops e =
       let p = piece-of k rest (name-slash-free c k name) stops in
       let behind : labels-after c (suc n) at (k ++ rest) ≡ Ok ls =
-            passes-label c (suc n) at (k ++ rest) ∙ (ap (λ (q : List ℕ). labels-after c (suc n) (at + length q) (drop (length q) (k ++ rest))) p
-            ∙ (ap (labels-after c (suc n) (at + length k)) (drop-at k rest (length k) refl) ∙ e)) in
+      passes-label c (suc n) at (k ++ rest) ∙ (ap (λ (q : List ℕ). labels-after c (suc n) (at + length q) (drop (length q) (k ++ rest))) p
+      ∙ (ap (labels-after c (suc n) (at + length k)) (drop-at k rest (length k) refl) ∙ e)) in
       let label : next-label c n at (piece (k ++ rest)) ≡ Ok (record { bytes = k; at = at }) = ap (next-label c n at) p ∙ read k name in
       ap (λ r. onward r (λ l. onward (labels-after c (suc n) at (k ++ rest)) (λ ls. Ok (l ∷ ls)))) label ∙ ap (λ r. onward r (λ ls. Ok (record { bytes = k; at = at } ∷ ls))) behind
     where
@@ -120,7 +121,7 @@ module _ (c : Classes) where
       record {
         said = record { bytes = k; at = at + 1 } ∷ r .said;
         reads = one-more n (at + 1) k (slashed ks) (r .said) (omega arith) name (slashed-stops ks) (r .reads);
-        says = ap (λ (xs : List (List ℕ)). k ∷ xs) (r .says)
+        says = ap (λ (xs : List (List ℕ)). k ∷ xs) (r .says);
       }
 
   path-read : (at : ℕ) (ks : List (List ℕ)) → Is-label-path c ks → Labels-read (read-labels c at (joined ks)) ks
@@ -130,7 +131,7 @@ module _ (c : Classes) where
       record {
         said = record { bytes = k; at = at } ∷ r .said;
         reads = ap (read-labels c at) (joined-slashed k ks) ∙ one-more 0 at k (slashed ks) (r .said) (omega arith) name (slashed-stops ks) (r .reads);
-        says = ap (λ (xs : List (List ℕ)). k ∷ xs) (r .says)
+        says = ap (λ (xs : List (List ℕ)). k ∷ xs) (r .says);
       }
 
   pub accepts-labels : (at : ℕ) (bs : List ℕ) → Accepts-labels c bs (read-labels c at bs)

@@ -44,5 +44,5 @@ module _ (c : Classes) (text : List ℕ) (at : ℕ) (some : 0 < length (piece (d
   bad-label n f h e = let first = first-byte n in grind (arith, tells)
 
   pub good-label : (n : ℕ) (s : Spot) (end : ℕ) → n < 16 → Ok s ≡ read-name c at (piece (drop at text)) → end ≡ at + length (piece (drop at text))
-    → _≡_ {A = Next} (Ok (s, end)) (read-label c n at (drop at text))
+      → _≡_ {A = Next} (Ok (s, end)) (read-label c n at (drop at text))
   good-label n s end h e stop = let first = first-byte n in grind (arith, tells)

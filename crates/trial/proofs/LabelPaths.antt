@@ -55,7 +55,7 @@ module _ (c : Classes) where
     Labels-from S = S ≡ add-label c n place (drop place text) (labels-after c (suc n) place (drop place text))
 
     pub goes-on-behind : (S : Result (List Spot) PathFault) → Labels-from S → (l : Spot) (end : ℕ) → _≡_ {A = Next} (Ok (l, end)) (read-label c n place (drop place text))
-      → S ≡ onward (labels-after c (suc n) end (drop end text)) (λ ls. Ok (l ∷ ls))
+        → S ≡ onward (labels-after c (suc n) end (drop end text)) (λ ls. Ok (l ∷ ls))
     unfolding stop
     goes-on-behind S next l end e =
         let p = passes-label (suc n) place (drop place text) in
@@ -63,8 +63,8 @@ module _ (c : Classes) where
         go (next-label c n place (piece (drop place text))) next e (p ∙ q)
       where
         go : (t : Result Spot PathFault) → S ≡ onward t (λ l. onward (labels-after c (suc n) place (drop place text)) (λ ls. Ok (l ∷ ls)))
-          → _≡_ {A = Next} (Ok (l, end)) (onward t (λ l. Ok (l, stop))) → labels-after c (suc n) place (drop place text) ≡ labels-after c (suc n) stop (drop stop text)
-          → S ≡ onward (labels-after c (suc n) end (drop end text)) (λ ls. Ok (l ∷ ls))
+            → _≡_ {A = Next} (Ok (l, end)) (onward t (λ l. Ok (l, stop))) → labels-after c (suc n) place (drop place text) ≡ labels-after c (suc n) stop (drop stop text)
+            → S ≡ onward (labels-after c (suc n) end (drop end text)) (λ ls. Ok (l ∷ ls))
         go (Ok t) x e y =
             x ∙ (ap (λ r. onward r (λ ls. Ok (t ∷ ls))) y
             ∙ ap (λ (r : Spot × ℕ). onward (labels-after c (suc n) (r .1) (drop (r .1) text)) (λ ls. Ok (r .0 ∷ ls))) (sym (same-ok e)))
@@ -94,9 +94,11 @@ module _ (c : Classes) where
         not-empty : (p : List ℕ) → _≡_ {A = Next} (Ok (l, end)) (onward (next-label c n place p) (λ l. Ok (l, stop))) → 0 < length p
         not-empty [] e = absurd (let z : _≡_ {A = ℕ} 0 1 = cc in omega arith)
         not-empty (b ∷ bs) e = omega arith
+
         not-many : (p : List ℕ) → _≡_ {A = Next} (Ok (l, end)) (onward (next-label c n place p) (λ l. Ok (l, stop))) → n < 16
         not-many [] e = absurd (let z : _≡_ {A = ℕ} 0 1 = cc in omega arith)
         not-many (b ∷ bs) e = ⊎-elim (λ lt. lt) (λ ge. absurd (let z : _≡_ {A = ℕ} 0 1 = grind (arith, tells) in omega arith)) (cases-lt n 16)
+
         go : (t : Result Spot PathFault) → _≡_ {A = Next} (Ok (l, end)) (onward t (λ l. Ok (l, stop))) → end ≡ stop
         go (Ok t) e = ap (λ (r : Spot × ℕ). r .1) (same-ok e)
         go (Err f) e = absurd (let z : _≡_ {A = ℕ} 0 1 = cc in omega arith)
@@ -114,13 +116,13 @@ module _ (c : Classes) where
     Read-to S qs at = S ≡ onward (labels-after c (length qs) at (drop at text)) (λ ls. Ok (map spot qs ++ ls))
 
     pub next-read : (S : Result (List Spot) PathFault) (qs : List Name) (at : ℕ) (l : Name) (end : ℕ) → Read-to S qs at
-      → labels-after c (length qs) at (drop at text) ≡ onward (labels-after c (suc (length qs)) end (drop end text)) (λ ls. Ok (spot l ∷ ls)) → Read-to S (qs ++ l ∷ []) end
+        → labels-after c (length qs) at (drop at text) ≡ onward (labels-after c (suc (length qs)) end (drop end text)) (λ ls. Ok (spot l ∷ ls)) → Read-to S (qs ++ l ∷ []) end
     next-read S qs at l end e next =
         let count : suc (length qs) ≡ length (qs ++ l ∷ []) = omega (arith, length-append qs (l ∷ [])) in
         e ∙ (ap (λ r. onward r (λ ls. Ok (map spot qs ++ ls))) next
-          ∙ (push-on (spot l) (map spot qs) (labels-after c (suc (length qs)) end (drop end text))
-          ∙ (ap (λ (n : ℕ). onward (labels-after c n end (drop end text)) (λ ls. Ok ((map spot qs ++ spot l ∷ []) ++ ls))) count
-          ∙ ap (λ (us : List Spot). onward (labels-after c (length (qs ++ l ∷ [])) end (drop end text)) (λ ls. Ok (us ++ ls))) (sym (map-push spot qs l)))))
+        ∙ (push-on (spot l) (map spot qs) (labels-after c (suc (length qs)) end (drop end text))
+        ∙ (ap (λ (n : ℕ). onward (labels-after c n end (drop end text)) (λ ls. Ok ((map spot qs ++ spot l ∷ []) ++ ls))) count
+        ∙ ap (λ (us : List Spot). onward (labels-after c (length (qs ++ l ∷ [])) end (drop end text)) (λ ls. Ok (us ++ ls))) (sym (map-push spot qs l)))))
 
     pub all-read : (S : Result (List Spot) PathFault) (qs : List Name) (at : ℕ) → Read-to S qs at → length text ≤ at → Ok (map spot qs) ≡ S
     all-read S qs at e end =

@@ -33,7 +33,7 @@ use Rattle.trial.proofs.Joined.{accepts-labels}
 says-fitting : (ss : List (Step Spot)) (ls : List Spot) → Says (verdict (fits same-bytes Closed ss ls)) (Stands-for _≡_ (grammar.written ss) (written ls))
 says-fitting ss ls =
     fits-by-equation sameBytes sameBytes-decides [] Closed (grammar.written ss) (written ls) (verdict (fits same-bytes Closed ss ls))
-      (ap verdict (sym (fits-named sameBytes (λ (s : Spot). s .bytes) Closed ss ls)))
+    (ap verdict (sym (fits-named sameBytes (λ (s : Spot). s .bytes) Closed ss ls)))
 
 module _ (c : Classes) (a b : ℕ) (ls es : List ℕ) where
   pub tries : Tries c ls es (try-answer c a ls b es)
@@ -44,12 +44,13 @@ module _ (c : Classes) (a b : ℕ) (ls es : List ℕ) where
           let (labels, l, lk) = accepts-labels c a ls .1 ks text names in
           let (ss, s, st) = accepts-paths c b es .1 ts path few in
           let told : Says (verdict (fits same-bytes Closed ss labels)) (Stands-for _≡_ ts ks) =
-                subst (λ (xs : List (List ℕ)). Says (verdict (fits same-bytes Closed ss labels)) (Stands-for _≡_ ts xs)) lk
-                  (subst (λ (us : List (Step (List ℕ))). Says (verdict (fits same-bytes Closed ss labels)) (Stands-for _≡_ us (written labels))) st (says-fitting ss labels)) in
+          subst (λ (xs : List (List ℕ)). Says (verdict (fits same-bytes Closed ss labels)) (Stands-for _≡_ ts xs)) lk
+          (subst (λ (us : List (Step (List ℕ))). Says (verdict (fits same-bytes Closed ss labels)) (Stands-for _≡_ us (written labels))) st (says-fitting ss labels)) in
           (verdict (fits same-bytes Closed ss labels), ap (λ r. onward r (λ labels. onward (read-path c b es) (λ ss. Ok (verdict (fits same-bytes Closed ss labels))))) l ∙ ap (λ r. onward r (λ ss. Ok (verdict (fits same-bytes Closed ss labels)))) s, told)
+
       meant : (p : Result (List Spot) PathFault) → read-labels c a ls ≡ p → (q : Result (List (Step Spot)) PathFault) → read-path c b es ≡ q
-        → (fit : Fit) → onward p (λ labels. onward q (λ ss. Ok (verdict (fits same-bytes Closed ss labels)))) ≡ Ok fit
-        → (ks : List (List ℕ)) × (ts : List (Step (List ℕ))) × Both-read c ls es ks ts × Says fit (Stands-for _≡_ ts ks)
+          → (fit : Fit) → onward p (λ labels. onward q (λ ss. Ok (verdict (fits same-bytes Closed ss labels)))) ≡ Ok fit
+          → (ks : List (List ℕ)) × (ts : List (Step (List ℕ))) × Both-read c ls es ks ts × Says fit (Stands-for _≡_ ts ks)
       meant (Ok labels) l (Ok ss) s fit e =
           let (text, names) = accepts-labels c a ls .0 labels l in
           let (path, few) = accepts-paths c b es .0 ss s in
@@ -60,8 +61,8 @@ module _ (c : Classes) (a b : ℕ) (ls es : List ℕ) where
 
 -- the answer of fitting at the names that were read is the answer of trying
 pub tried-at-names : (c : Classes) (a b : ℕ) (ls es : List ℕ) (names : List Name) (steps : List (Step Name)) (r : Fit)
-  → Ok (map spot names) ≡ read-labels c a ls → Ok (spelled steps) ≡ read-path c b es
-  → r ≡ verdict (fits (λ x y. sameBytes (spot x .bytes) (spot y .bytes)) Closed steps names) → Ok r ≡ try-answer c a ls b es
+    → Ok (map spot names) ≡ read-labels c a ls → Ok (spelled steps) ≡ read-path c b es
+    → r ≡ verdict (fits (λ x y. sameBytes (spot x .bytes) (spot y .bytes)) Closed steps names) → Ok r ≡ try-answer c a ls b es
 tried-at-names c a b ls es names steps r l s fit =
     let told : Fit → Result Fit PathFault = λ r. Ok r in
     ap told (fit ∙ ap verdict (sym (fits-named same-bytes spot Closed steps names)))

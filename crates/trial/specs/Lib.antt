@@ -4,3 +4,4 @@ pub mod Tries
 pub mod Refusals
 pub mod Lines
 pub mod Replies
+pub mod Examples

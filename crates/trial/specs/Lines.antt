@@ -46,7 +46,7 @@ no-expression c line = onward (in-line (read-labels c 0 (first line))) (λ ls. E
 abbrev pub both-fields : Classes → List ℕ → Result Fit LineFault
 both-fields c line =
     onward (in-line (try-answer c 0 (first line) (second-at line) (second line)))
-      (λ fit. cond (ltb (second-at line + length (second line)) (length line)) (Err (Field (second-at line + length (second line) + 1))) (Ok fit))
+    (λ fit. cond (ltb (second-at line + length (second line)) (length line)) (Err (Field (second-at line + length (second line) + 1))) (Ok fit))
 
 abbrev pub fields-answer : Classes → List ℕ → Result Fit LineFault
 fields-answer c line = cond (eqb (length (first line)) 0) (Err (Field 0)) (cond (eqb (length (second line)) 0) (no-expression c line) (both-fields c line))

@@ -1,4 +1,5 @@
 // Trying a written label path against an expression, without a tree.
+pub mod examples;
 pub mod fault;
 pub mod labels;
 pub mod line;

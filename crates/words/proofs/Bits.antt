@@ -32,12 +32,14 @@ bit-one a k =
         let p : 2 ^ a / 2 ^ a ≡ 1 = ap (λ (n : ℕ). n / 2 ^ a) (sym (one-mul (2 ^ a))) ∙ shl-shr 1 a in
         let q : 2 ^ a / 2 ^ k % 2 ≡ 1 = ap (λ (n : ℕ). 2 ^ a / 2 ^ n % 2) e ∙ ap (λ (n : ℕ). n % 2) p in
         eq-eqb _ _ q ∙ sym (eq-eqb k a e)
+
     under-one : (j : ℕ) → a ≡ (1 + j) + k → k < a → bit (2 ^ a) k ≡ eqb k a
     under-one j e lt =
         let p : 2 ^ a ≡ 2 ^ (1 + j) * 2 ^ k = ap (λ (n : ℕ). 2 ^ n) e ∙ pow-add 2 (1 + j) k in
         let q : 2 ^ a / 2 ^ k ≡ 2 ^ (1 + j) = ap (λ (n : ℕ). n / 2 ^ k) p ∙ shl-shr (2 ^ (1 + j)) k in
         let z : 2 ^ a / 2 ^ k % 2 ≡ 0 = omega (arith, pow-add 2 1 j) in
         ne-eqb _ _ (λ h. omega arith) ∙ sym (ne-eqb k a (λ h. omega arith))
+
     over-one : a < k → bit (2 ^ a) k ≡ eqb k a
     over-one lt =
         let z = div-below (2 ^ a) (2 ^ k) 1 (pow-pos k) (omega (arith, pow-below a k lt)) in

@@ -16,5 +16,9 @@ pub fn has(word: u32, place: usize) -> bool
 pub fn with(word: u32, place: usize) -> u32
     ensures { λ r. ⌜ ((k : ℕ) → bit r k ≡ (bit word k || (ltb place 32 && eqb k place))) ⌝ }
 {
-    if place < 32 { word | (1 << place) } else { word }
+    if place < 32 {
+        word | (1 << place)
+    } else {
+        word
+    }
 }

@@ -31,7 +31,9 @@ impl CodedPath {
         if !is_coded(test) {
             return None;
         }
-        Some(CodedPath { path: Path::one(test) })
+        Some(CodedPath {
+            path: Path::one(test),
+        })
     }
 
     // One step more, where there are not eight yet and its code is not 0.
@@ -40,12 +42,5 @@ impl CodedPath {
         ensures after { λ r. ⌜ code-steps (now (self .exit)) ≡ cond r (code-steps (now (self .entry)) ++ step ∷ []) (code-steps (now (self .entry))) ⌝ }
     {
         is_coded(step.test) && self.path.push(step)
-    }
-
-    // The path that it is.
-    pub fn path(&self) -> &Path<u16>
-        ensures { λ r. ⌜ now r ≡ now (self .entry) .path ⌝ }
-    {
-        &self.path
     }
 }

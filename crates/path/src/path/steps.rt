@@ -44,7 +44,7 @@ impl<L> Path<L> {
         ensures value { λ r. ⌜ r ≡ length (steps-of (now (self .entry))) ⌝ }
         ensures bound { λ r. ⌜ 1 ≤ r ⌝ ∗ ⌜ r ≤ 8 ⌝ }
     {
-        self.count
+        self.steps().len()
     }
 
     pub fn steps(&self) -> &[Step<L>]

@@ -15,13 +15,16 @@ impl Labels {
     pub fn one(name: Name) -> Labels
         ensures { λ r. ⌜ names-of r ≡ name ∷ [] ⌝ }
     {
-        Labels { row: [name; 16], count: 1 }
+        Labels {
+            row: [name; 16],
+            count: 1,
+        }
     }
 
     pub fn len(&self) -> usize
         ensures { λ r. ⌜ r ≡ length (names-of (now (self .entry))) ⌝ }
     {
-        self.count
+        self.names().len()
     }
 
     // One name more, where there are not sixteen yet.

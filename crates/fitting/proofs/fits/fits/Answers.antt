@@ -25,7 +25,7 @@ one-back {X} xs i x pos le e =
 
 -- an answer that is the computed one means what it says
 meant : {L : Type 0} (same : L → L → Bool) (reflexive : (x : L) → same x x ≡ true) (e : Ending) (ss : List (Step L)) (ls : List L) (r : Fit) → r ≡ verdict (fits same e ss ls)
-  → (some : L) → Says r (Fits-path (λ x y. same x y ≡ true) e ss ls)
+    → (some : L) → Says r (Fits-path (λ x y. same x y ≡ true) e ss ls)
 meant same reflexive e ss ls r answer some = subst (λ (r : Fit). Says r (Fits-path (λ x y. same x y ≡ true) e ss ls)) (sym answer) (fits-exactly same reflexive some e ss ls)
 
 pub loop-i-holds : need.loop-i-holds

@@ -87,7 +87,7 @@ part-expression-end c =
 
 -- the answer of trying, as the line's: tried by what the code has cut out
 tried-is : (k : Classes) (line labels expression : List ℕ) (at : ℕ) → labels ≡ first line → at ≡ second-at line → expression ≡ second line
-  → try-answer k 0 labels at expression ≡ try-answer k 0 (first line) (second-at line) (second line)
+    → try-answer k 0 labels at expression ≡ try-answer k 0 (first line) (second-at line) (second line)
 tried-is k line labels expression at l a x =
     ap (λ (bs : List ℕ). try-answer k 0 bs at expression) l ∙ (ap (λ (n : ℕ). try-answer k 0 (first line) n expression) a ∙ ap (try-answer k 0 (first line) (second-at line)) x)
 

@@ -21,5 +21,5 @@ returns c =
     let path = c .in-Continue-path .path in
     let fit = c .fits-2 .ensures .answer ∙ ap (λ (ns : List Name). verdict (fits (λ x y. sameBytes (spot x .bytes) (spot y .bytes)) Closed (steps-of path) ns)) (c .names .ensures) in
     let e = tried-at-names k (l .at) (x .at) (bytes-of l) (bytes-of x) (names-of labels) (steps-of path) (c .fits-2 .result)
-              (c .in-Continue-labels .ensures tt .answer) (c .in-Continue-path .ensures tt .answer) fit in
+    (c .in-Continue-labels .ensures tt .answer) (c .in-Continue-path .ensures tt .answer) fit in
     record { answer = e; means = subst (Tries k (bytes-of l) (bytes-of x)) (sym e) (tries k (l .at) (x .at) (bytes-of l) (bytes-of x)) }

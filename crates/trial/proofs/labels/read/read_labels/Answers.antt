@@ -56,7 +56,7 @@ loop-at-again c =
     let S = read-labels k (p .at) (bytes-of p) in
     let count : c .len .result ≡ length qs = c .len .ensures in
     let read : _≡_ {A = Next} (Ok (spot l, end)) (read-label k (length qs) (at + 1) (drop (at + 1) text)) =
-          subst (λ (n : ℕ). _≡_ {A = Next} (Ok (spot l, end)) (read-label k n (at + 1) (drop (at + 1) text))) count (c .in-Ok .ensures tt) in
+    subst (λ (n : ℕ). _≡_ {A = Next} (Ok (spot l, end)) (read-label k n (at + 1) (drop (at + 1) text))) count (c .in-Ok .ensures tt) in
     let well = ends-behind k (length qs) (at + 1) text (spot l) end read in
     let next = goes-on-behind k (length qs) (at + 1) text (labels-after k (length qs) at (drop at text)) (next-at-slash k (length qs) at text (omega arith) (c .loop-at .inv .2)) (spot l) end read in
     let pushed : names-of (c .push .last .self) ≡ qs ++ l ∷ [] = c .push .ensures .after ∙ cond-true _ _ _ (c .push .ensures .answer ∙ lt-ltb _ _ (well .0)) in
@@ -79,7 +79,7 @@ returns-in-Err c =
     let S = read-labels k (p .at) (bytes-of p) in
     let count : c .len .result ≡ length qs = c .len .ensures in
     let read : _≡_ {A = Next} (Err (c .in-Err .fault)) (read-label k (length qs) (at + 1) (drop (at + 1) text)) =
-          subst (λ (n : ℕ). _≡_ {A = Next} (Err (c .in-Err .fault)) (read-label k n (at + 1) (drop (at + 1) text))) count (c .in-Err .ensures tt) in
+    subst (λ (n : ℕ). _≡_ {A = Next} (Err (c .in-Err .fault)) (read-label k n (at + 1) (drop (at + 1) text))) count (c .in-Err .ensures tt) in
     let fault = faults-behind k (length qs) (at + 1) text (labels-after k (length qs) at (drop at text)) (next-at-slash k (length qs) at text (omega arith) (c .loop-at .inv .2)) (c .in-Err .fault) read in
     let e = sym (c .loop-at .inv .0 ∙ ap (λ r. onward r (λ ls. Ok (map spot qs ++ ls))) fault) in
     record { answer = e; accepts = told k (p .at) (bytes-of p) (Err (c .in-Err .fault)) e }

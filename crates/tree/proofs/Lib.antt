@@ -1,0 +1,11 @@
+pub mod Naming
+pub mod Members
+pub mod Look
+pub mod Rising
+pub mod Seats
+pub mod Next
+pub mod Trees
+pub mod Leaves
+pub mod Kept
+pub mod Sorting
+pub mod Visits
