@@ -13,11 +13,11 @@ use Rattle.std.specs.Orderings.{Decides}
 use Rattle.std.specs.Results.{isOk}
 use Rattle.std.specs.declared.result.Result.{Result}
 use Rattle.std.specs.declared.result.Result.the-variants.{Ok, Err}
-use Rattle.name.specs.declared.classes.Classes.{Classes}
+use Rattle.bytes.specs.declared.classes.Classes.{Classes}
 use Rattle.name.specs.declared.fault.NameCause.the-variants.{Empty}
 use Rattle.name.specs.declared.fault.NameFault.{NameFault}
 use Rattle.name.specs.declared.name.Name.{Name}
-use Rattle.name.specs.Bytes.{class-of, begins, follows}
+use Rattle.bytes.specs.Bytes.{class-of, begins, follows}
 use Rattle.name.specs.Names.{Spot, Is-name, all-follow, allowed, byte-check, bytes-check, fault, read-name, seen, then}
 
 pub then-parts : {X E : Type 0} (r : Result (Unit {0}) E) (s : Result X E) → isOk (then r s) ≡ true → (isOk r ≡ true) × (isOk s ≡ true)

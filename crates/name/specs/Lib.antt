@@ -1,4 +1,3 @@
-pub mod Bytes
 pub mod Names
 pub mod Parts
 pub mod Refusals

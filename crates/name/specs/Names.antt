@@ -19,13 +19,13 @@ use lib.Dec.{ltb}
 use lib.ListN.{length, take, drop}
 use Rattle.std.specs.declared.result.Result.{Result}
 use Rattle.std.specs.declared.result.Result.the-variants.{Ok, Err}
-use Rattle.name.specs.declared.classes.Classes.{Classes}
+use Rattle.bytes.specs.declared.classes.Classes.{Classes}
 use Rattle.name.specs.declared.fault.NameCause.{NameCause}
 use Rattle.name.specs.declared.fault.NameCause.the-variants.{Empty, Byte, Long}
 use Rattle.name.specs.declared.fault.NameFault.{NameFault}
 use Rattle.name.specs.declared.name.Name.{Name}
 use Rattle.name.specs.declared.name.Part.{Part}
-use Rattle.name.specs.Bytes.{class-of, begins, follows}
+use Rattle.bytes.specs.Bytes.{class-of, begins, follows}
 
 abbrev pub all-follow : Classes → List ℕ → Bool
 all-follow c [] = true

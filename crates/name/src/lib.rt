@@ -1,5 +1,4 @@
-// Names: which bytes they have, and reading one from a text.
-pub mod classes;
+// Names, and reading one from a text.
 pub mod fault;
 pub mod name;
 pub mod told;

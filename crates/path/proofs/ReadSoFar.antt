@@ -9,7 +9,7 @@ use lib.ListN.{length, drop, length-append}
 use Rattle.std.proofs.shelf.Lists.{append-nil, map-push}
 use Rattle.std.specs.declared.result.Result.{Result}
 use Rattle.std.specs.declared.result.Result.the-variants.{Ok, Err}
-use Rattle.name.specs.declared.classes.Classes.{Classes}
+use Rattle.bytes.specs.declared.classes.Classes.{Classes}
 use Rattle.name.specs.declared.name.Name.{Name}
 use Rattle.name.specs.Names.{Spot, spot}
 use Rattle.path.specs.declared.fault.PathFault.{PathFault}

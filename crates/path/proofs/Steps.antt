@@ -12,9 +12,9 @@ use Rattle.std.proofs.shelf.Tests.{and-parts, cases-bool, eqb-true, false≢tru
 use Rattle.std.proofs.shelf.Ways.{tells}
 use Rattle.std.specs.declared.result.Result.{Result}
 use Rattle.std.specs.declared.result.Result.the-variants.{Ok, Err}
-use Rattle.name.specs.declared.classes.Classes.{Classes}
+use Rattle.bytes.specs.declared.classes.Classes.{Classes}
 use Rattle.name.specs.declared.fault.NameFault.{NameFault}
-use Rattle.name.specs.Bytes.{begins, class-of, follows}
+use Rattle.bytes.specs.Bytes.{begins, class-of, follows}
 use Rattle.name.specs.Names.{Is-name, Spot, all-follow, read-name}
 use Rattle.name.proofs.Judged.{name-reads, read-gives}
 use Rattle.path.specs.declared.fault.PathFault.{PathFault}

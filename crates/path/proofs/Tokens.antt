@@ -11,9 +11,9 @@ use Rattle.std.proofs.shelf.Lists.{at-drop-more, drop-drop}
 use Rattle.std.proofs.shelf.Ways.{tells}
 use Rattle.std.specs.declared.result.Result.{Result}
 use Rattle.std.specs.declared.result.Result.the-variants.{Ok, Err}
-use Rattle.name.specs.declared.classes.Classes.{Classes}
+use Rattle.bytes.specs.declared.classes.Classes.{Classes}
 use Rattle.name.specs.declared.fault.NameCause.the-variants.{Byte}
-use Rattle.name.specs.Bytes.{begins, class-of}
+use Rattle.bytes.specs.Bytes.{begins, class-of}
 use Rattle.name.specs.Names.{Spot, fault, read-name}
 use Rattle.path.specs.declared.fault.PathFault.{PathFault}
 use Rattle.path.specs.declared.fault.PathFault.the-variants as fault-in

@@ -13,7 +13,7 @@ use Prim.Native.Nat.{ℕ, _≤_}
 use lib.ListN.{length}
 use Rattle.std.specs.declared.result.Result.{Result}
 use Rattle.std.specs.declared.result.Result.the-variants.{Ok, Err}
-use Rattle.name.specs.declared.classes.Classes.{Classes}
+use Rattle.bytes.specs.declared.classes.Classes.{Classes}
 use Rattle.name.specs.Names.{Is-name, Spot}
 use Rattle.path.specs.declared.fault.PathFault.{PathFault}
 use Rattle.path.specs.declared.step.Step.{Step}

@@ -20,11 +20,11 @@ use Rattle.std.specs.declared.option.Option.{Option}
 use Rattle.std.specs.declared.option.Option.the-variants.{Some, None}
 use Rattle.std.specs.declared.result.Result.{Result}
 use Rattle.std.specs.declared.result.Result.the-variants.{Ok, Err}
-use Rattle.name.specs.declared.classes.Classes.{Classes}
+use Rattle.bytes.specs.declared.classes.Classes.{Classes}
 use Rattle.name.specs.declared.fault.NameCause.the-variants.{Byte}
 use Rattle.name.specs.declared.fault.NameFault.{NameFault}
 use Rattle.name.specs.declared.name.Name.{Name}
-use Rattle.name.specs.Bytes.{class-of, begins}
+use Rattle.bytes.specs.Bytes.{class-of, begins}
 use Rattle.name.specs.Names.{Spot, fault, read-name, spot}
 use Rattle.path.specs.declared.fault.PathFault.{PathFault}
 use Rattle.path.specs.declared.fault.PathFault.the-variants as fault-in

@@ -12,7 +12,7 @@ use Rattle.std.proofs.shelf.Tests.{cond-false, cond-true, eq-eqb, le-ltb, ne-eq
 use Rattle.std.proofs.shelf.Ways.{tells}
 use Rattle.std.specs.declared.result.Result.{Result}
 use Rattle.std.specs.declared.result.Result.the-variants.{Ok, Err}
-use Rattle.name.specs.declared.classes.Classes.{Classes}
+use Rattle.bytes.specs.declared.classes.Classes.{Classes}
 use Rattle.name.specs.Parts.{before}
 use Rattle.path.specs.declared.fault.PathFault.{PathFault}
 use Rattle.path.specs.Reading.{onward}

@@ -13,7 +13,7 @@ use Rattle.std.proofs.shelf.Tests.{cases-bool, cases-lt, cond-false, cond-true,
 use Rattle.std.proofs.shelf.Ways.{tells}
 use Rattle.std.specs.declared.result.Result.{Result}
 use Rattle.std.specs.declared.result.Result.the-variants.{Ok, Err}
-use Rattle.name.specs.declared.classes.Classes.{Classes}
+use Rattle.bytes.specs.declared.classes.Classes.{Classes}
 use Rattle.name.specs.declared.fault.NameFault.{NameFault}
 use Rattle.name.specs.declared.name.Name.{Name}
 use Rattle.name.specs.Names.{Is-name, Spot, read-name, spot}

@@ -11,7 +11,7 @@ use Rattle.std.proofs.shelf.Lists.{length-map}
 use Rattle.std.specs.shelf.Text.{sameBytes}
 use Rattle.std.specs.declared.result.Result.{Result}
 use Rattle.std.specs.declared.result.Result.the-variants.{Ok, Err}
-use Rattle.name.specs.declared.classes.Classes.{Classes}
+use Rattle.bytes.specs.declared.classes.Classes.{Classes}
 use Rattle.name.specs.declared.name.Name.{Name}
 use Rattle.name.specs.Names.{Spot, spot}
 use Rattle.path.specs.declared.fault.PathFault.{PathFault}

@@ -15,9 +15,9 @@ use lib.Chars.{codes}
 use Rattle.std.specs.shelf.Text.{sameBytes}
 use Rattle.std.specs.declared.result.Result.{Result}
 use Rattle.std.specs.declared.result.Result.the-variants.{Ok, Err}
-use Rattle.name.specs.declared.classes.Class.{Class}
-use Rattle.name.specs.declared.classes.Classes.{Classes}
-use Rattle.name.specs.Bytes.{xml-class}
+use Rattle.bytes.specs.declared.classes.Class.{Class}
+use Rattle.bytes.specs.declared.classes.Classes.{Classes}
+use Rattle.bytes.specs.Bytes.{xml-class}
 use Rattle.name.specs.Names.{Spot}
 use Rattle.path.specs.declared.fault.PathFault.{PathFault}
 use Rattle.path.specs.declared.step.Step.{Step}

@@ -19,10 +19,10 @@ use lib.Dec.{eqb, ltb}
 use lib.ListN.{length}
 use Rattle.std.specs.declared.result.Result.{Result}
 use Rattle.std.specs.declared.result.Result.the-variants.{Ok, Err}
-use Rattle.name.specs.declared.classes.Classes.{Classes}
+use Rattle.bytes.specs.declared.classes.Classes.{Classes}
 use Rattle.name.specs.declared.fault.NameCause.the-variants.{Byte}
 use Rattle.name.specs.declared.name.Name.{Name}
-use Rattle.name.specs.Bytes.{begins, class-of}
+use Rattle.bytes.specs.Bytes.{begins, class-of}
 use Rattle.name.specs.Names.{Is-name, Spot, fault, read-name, spot}
 use Rattle.path.specs.declared.fault.PathFault.{PathFault}
 use Rattle.path.specs.declared.fault.PathFault.the-variants as fault-in

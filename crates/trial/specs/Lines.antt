@@ -17,7 +17,7 @@ use lib.Dec.{eqb, ltb}
 use lib.ListN.{length, drop}
 use Rattle.std.specs.declared.result.Result.{Result}
 use Rattle.std.specs.declared.result.Result.the-variants.{Ok, Err}
-use Rattle.name.specs.declared.classes.Classes.{Classes}
+use Rattle.bytes.specs.declared.classes.Classes.{Classes}
 use Rattle.name.specs.Parts.{before}
 use Rattle.path.specs.declared.fault.PathFault.{PathFault}
 use Rattle.path.specs.Reading.{onward}

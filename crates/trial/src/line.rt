@@ -6,7 +6,7 @@ use crate::fault::LineFromPath;
 use crate::labels::read::read_labels;
 use crate::tries::try_path;
 use fitting::fit::Fit;
-use name::classes::Classes;
+use bytes::classes::Classes;
 use name::name::Part;
 
 const LONGEST: usize = 200;

@@ -7,7 +7,7 @@ use fitting::fit::Ending;
 use fitting::fit::Fit;
 use fitting::fits::fits;
 use fitting::label::NameLabel;
-use name::classes::Classes;
+use bytes::classes::Classes;
 use name::name::Part;
 use path::fault::PathFault;
 use path::read::read_path;

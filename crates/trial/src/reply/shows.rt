@@ -6,7 +6,7 @@ ghost use Rattle.trial.specs.Replies.{reply-of, reply-text};
 use crate::line::answer_line;
 use crate::reply::Reply;
 use fitting::fit::Fit;
-use name::classes::Classes;
+use bytes::classes::Classes;
 use refusal::shows::RefusalDisplay;
 use std::fmt;
 

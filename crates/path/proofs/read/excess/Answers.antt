@@ -6,7 +6,7 @@ use Prim.Native.Nat.{ℕ}
 use native.Mathlib.Omega.{arith}
 use Rattle.std.proofs.shelf.Lists.{at-drop-all}
 use Rattle.std.proofs.shelf.Ways.{tells}
-use Rattle.name.specs.Bytes.{begins}
+use Rattle.bytes.specs.Bytes.{begins}
 use Rattle.path.specs.declared.fault.PathFault.{PathFault}
 use Rattle.path.specs.Pieces.{piece}
 use Rattle.path.specs.Reading.{excess}

@@ -12,9 +12,9 @@ use mathlib.Core.Bool.{Bool, true, false, cond, _&&_, _||_}
 use Prim.Native.Nat.{ℕ, _<_}
 use lib.Dec.{eqb, leb}
 use lib.ListN.{getD}
-use Rattle.name.specs.declared.classes.Class.{Class}
-use Rattle.name.specs.declared.classes.Class.the-variants.{Begins, Follows, Outside}
-use Rattle.name.specs.declared.classes.Classes.{Classes}
+use Rattle.bytes.specs.declared.classes.Class.{Class}
+use Rattle.bytes.specs.declared.classes.Class.the-variants.{Begins, Follows, Outside}
+use Rattle.bytes.specs.declared.classes.Classes.{Classes}
 
 abbrev pub class-of : Classes → ℕ → Class
 class-of c b = getD (c .table) b Outside

@@ -4,11 +4,11 @@ use mathlib.Core.List.{List, [], _∷_}
 use Prim.Native.Nat.{ℕ, zero, suc}
 use lib.ListN.{getD}
 use Rattle.std.proofs.shelf.Tests.{false≢true}
-use Rattle.name.specs.declared.classes.Class.{Class}
-use Rattle.name.specs.declared.classes.Class.the-variants.{Begins, Follows, Outside}
-use Rattle.name.specs.Bytes.{xml-class}
-use Rattle.name.proofs.Tables.{entry-passes}
-use Rattle.name.proofs.classes.Classes.built_in.Needs as need
+use Rattle.bytes.specs.declared.classes.Class.{Class}
+use Rattle.bytes.specs.declared.classes.Class.the-variants.{Begins, Follows, Outside}
+use Rattle.bytes.specs.Bytes.{xml-class}
+use Rattle.bytes.proofs.Tables.{entry-passes}
+use Rattle.bytes.proofs.classes.Classes.built_in.Needs as need
 
 abbrev same : Class → Class → Bool
 same Begins Begins = true

@@ -1,7 +1,7 @@
 // What a byte may do in a name, and a class for each byte.
 ghost use mathlib.Core.Path.{_≡_};
 ghost use lib.ListN.{length, getD};
-ghost use Rattle.name.specs.declared.classes.Class.the-variants.{Outside};
+ghost use Rattle.bytes.specs.declared.classes.Class.the-variants.{Outside};
 
 pub mod table;
 

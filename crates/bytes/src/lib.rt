@@ -1,0 +1,2 @@
+// Which bytes may stand in a name.
+pub mod classes;
