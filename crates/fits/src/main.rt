@@ -1,6 +1,6 @@
 // Answers each line `LABELPATH EXPRESSION` of standard input: does the label path fit the expression?
-use lines::line::Line;
 use bytes::classes::Classes;
+use lines::line::Line;
 use std::error::AnyError;
 use std::io::Read;
 use std::io::Write;

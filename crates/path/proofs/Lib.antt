@@ -1,5 +1,6 @@
 pub mod Pieces
 pub mod Tokens
+pub mod Onward
 pub mod Slashes
 pub mod Steps
 pub mod Derived

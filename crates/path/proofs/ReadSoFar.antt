@@ -16,14 +16,15 @@ use Rattle.path.specs.declared.fault.PathFault.{PathFault}
 use Rattle.path.specs.declared.step.Step.{Step}
 use Rattle.path.specs.Pieces.{at-slash}
 use Rattle.path.specs.Reading.{onward, read-behind, read-path, spelled, step, step-named, steps-after}
-use Rattle.path.proofs.Slashes.{ends-behind, goes-on-behind, push-on}
+use Rattle.path.proofs.Onward.{push-on}
+use Rattle.path.proofs.Slashes.{ends-behind, goes-on-behind}
 
 module _ (c : Classes) (text : List ℕ) where
   -- S are the steps qs, and then those behind the offset `at`
   abbrev pub Read-to : Result (List (Step Spot)) PathFault → List (Step Name) → ℕ → Type 0
   Read-to S qs at = S ≡ onward (steps-after c (length qs) at (drop at text)) (λ ss. Ok (spelled qs ++ ss))
 
-  pub first-read : (at : ℕ) (first : Step Name) (end : ℕ) (qs : List (Step Name)) → _≡_ {A = Result (Step Spot × ℕ) PathFault} (Ok (step-named spot first, end)) (read-behind c 0 false at (drop at text))
+  pub first-read : (at : ℕ) (first : Step Name) (end : ℕ) (qs : List (Step Name)) → Ok (step-named spot first, end) ≡ read-behind c 0 false at (drop at text)
       → qs ≡ step false (first .test) ∷ [] → Read-to (read-path c at (drop at text)) qs end × (end ≤ length text) × (at-slash (drop end text) ≡ true)
   first-read at first end qs e is =
       let well = ends-behind c 0 at false text (step-named spot first) end e in

@@ -1,4 +1,4 @@
--- Reading a label path label after label, and that it accepts exactly the label paths.
+-- Reading a label path label after label.
 -- Assumes nothing.
 use mathlib.Core.Path.{_≡_, refl, sym, ap, _∙_, subst}
 use mathlib.Core.Bool.{Bool, true, false, cond}
@@ -8,33 +8,21 @@ use Prim.Native.Nat.{ℕ, zero, suc, _+_, _<_, _≤_}
 use native.Mathlib.Omega.{arith}
 use lib.Dec.{eqb, ltb}
 use lib.ListN.{length, drop, getD, length-append, length-drop}
-use Rattle.std.proofs.shelf.Lists.{append-assoc, append-nil, drop-all, drop-drop, drop-more, length-map, map-push}
-use Rattle.std.proofs.shelf.Tests.{cases-bool, cases-lt, cond-false, cond-true, eqb-true, false≢true, lt-ltb}
+use Rattle.std.proofs.shelf.Lists.{append-nil, drop-all, drop-drop, drop-more, map-push}
+use Rattle.std.proofs.shelf.Tests.{cases-lt, cond-true}
 use Rattle.std.proofs.shelf.Ways.{tells}
 use Rattle.std.specs.declared.result.Result.{Result}
 use Rattle.std.specs.declared.result.Result.the-variants.{Ok, Err}
 use Rattle.bytes.specs.declared.classes.Classes.{Classes}
-use Rattle.name.specs.declared.fault.NameFault.{NameFault}
 use Rattle.name.specs.declared.name.Name.{Name}
-use Rattle.name.specs.Names.{Is-name, Spot, read-name, spot}
+use Rattle.name.specs.Names.{Spot, spot}
 use Rattle.name.proofs.Fronts.{before-within}
-use Rattle.name.proofs.Judged.{name-reads, read-gives}
 use Rattle.path.specs.declared.fault.PathFault.{PathFault}
-use Rattle.path.specs.declared.fault.PathFault.the-variants as fault-in
 use Rattle.path.specs.Pieces.{piece, at-slash}
-use Rattle.path.specs.Reading.{in-path, onward}
-use Rattle.path.proofs.Pieces.{one-piece, piece-and-rest, piece-append, piece-stops, slash-free}
-use Rattle.path.proofs.Steps.{name-slash-free}
-use Rattle.trial.specs.Labels.{Accepts-labels, All-names, Is-label-path, add-label, joined, labels-after, next-label, read-label, read-labels, written}
-use Rattle.trial.proofs.Label.{Next}
-
-same-ok : {x y : Spot × ℕ} → _≡_ {A = Next} (Ok x) (Ok y) → x ≡ y
-same-ok e = cc
-
--- a label more in front of those that are read
-push-on : (x : Spot) (xs : List Spot) (r : Result (List Spot) PathFault) → onward (onward r (λ ls. Ok (x ∷ ls))) (λ ls. Ok (xs ++ ls)) ≡ onward r (λ ls. Ok ((xs ++ x ∷ []) ++ ls))
-push-on x xs (Ok ls) = ap (λ (ys : List Spot). Ok ys) (sym (append-assoc xs (x ∷ []) ls))
-push-on x xs (Err f) = refl
+use Rattle.path.specs.Reading.{onward}
+use Rattle.path.proofs.Onward.{item-ends, item-faults, item-goes-on, push-on}
+use Rattle.path.proofs.Pieces.{piece-stops}
+use Rattle.trial.specs.Labels.{add-label, labels-after, next-label, read-label}
 
 module _ (c : Classes) where
   -- the bytes before the first slash are passed over
@@ -47,61 +35,44 @@ module _ (c : Classes) where
       grind (arith, tells)
 
   module _ (n place : ℕ) (text : List ℕ) where
-    stop : ℕ
+    -- where the label at `place` ends
+    abbrev stop : ℕ
     stop = place + length (piece (drop place text))
 
     -- S are the labels of a text from `place` on, where n are read already
     abbrev pub Labels-from : Result (List Spot) PathFault → Type 0
     Labels-from S = S ≡ add-label c n place (drop place text) (labels-after c (suc n) place (drop place text))
 
-    pub goes-on-behind : (S : Result (List Spot) PathFault) → Labels-from S → (l : Spot) (end : ℕ) → _≡_ {A = Next} (Ok (l, end)) (read-label c n place (drop place text))
-        → S ≡ onward (labels-after c (suc n) end (drop end text)) (λ ls. Ok (l ∷ ls))
-    unfolding stop
-    goes-on-behind S next l end e =
-        let p = passes-label (suc n) place (drop place text) in
-        let q = ap (labels-after c (suc n) stop) (drop-drop (length (piece (drop place text))) place text) in
-        go (next-label c n place (piece (drop place text))) next e (p ∙ q)
-      where
-        go : (t : Result Spot PathFault) → S ≡ onward t (λ l. onward (labels-after c (suc n) place (drop place text)) (λ ls. Ok (l ∷ ls)))
-            → _≡_ {A = Next} (Ok (l, end)) (onward t (λ l. Ok (l, stop))) → labels-after c (suc n) place (drop place text) ≡ labels-after c (suc n) stop (drop stop text)
-            → S ≡ onward (labels-after c (suc n) end (drop end text)) (λ ls. Ok (l ∷ ls))
-        go (Ok t) x e y =
-            x ∙ (ap (λ r. onward r (λ ls. Ok (t ∷ ls))) y
-            ∙ ap (λ (r : Spot × ℕ). onward (labels-after c (suc n) (r .1) (drop (r .1) text)) (λ ls. Ok (r .0 ∷ ls))) (sym (same-ok e)))
-        go (Err f) x e y = absurd (let z : _≡_ {A = ℕ} 0 1 = cc in omega arith)
+    behind-stop : labels-after c (suc n) place (drop place text) ≡ labels-after c (suc n) stop (drop stop text)
+    behind-stop = passes-label (suc n) place (drop place text) ∙ ap (labels-after c (suc n) stop) (drop-drop (length (piece (drop place text))) place text)
 
-    pub faults-behind : (S : Result (List Spot) PathFault) → Labels-from S → (f : PathFault) → _≡_ {A = Next} (Err f) (read-label c n place (drop place text)) → S ≡ Err f
-    unfolding stop
-    faults-behind S next f e = go (next-label c n place (piece (drop place text))) next e
-      where
-        go : (t : Result Spot PathFault) → S ≡ onward t (λ l. onward (labels-after c (suc n) place (drop place text)) (λ ls. Ok (l ∷ ls))) → _≡_ {A = Next} (Err f) (onward t (λ l. Ok (l, stop))) → S ≡ Err f
-        go (Ok t) x e = absurd (let z : _≡_ {A = ℕ} 0 1 = cc in omega arith)
-        go (Err g) x e = grind arith
+    pub goes-on-behind : (S : Result (List Spot) PathFault) → Labels-from S → (l : Spot) (end : ℕ) → Ok (l, end) ≡ read-label c n place (drop place text)
+        → S ≡ onward (labels-after c (suc n) end (drop end text)) (λ ls. Ok (l ∷ ls))
+    goes-on-behind S next l end e =
+        item-goes-on (λ l. l) stop (next-label c n place (piece (drop place text))) S (labels-after c (suc n) place (drop place text)) (λ end. labels-after c (suc n) end (drop end text)) next behind-stop l end e
+
+    pub faults-behind : (S : Result (List Spot) PathFault) → Labels-from S → (f : PathFault) → Err f ≡ read-label c n place (drop place text) → S ≡ Err f
+    faults-behind S next f e = item-faults (λ l. l) stop (next-label c n place (piece (drop place text))) S (labels-after c (suc n) place (drop place text)) next f e
 
     -- a label that is read is no seventeenth one, and ends within the text, at a slash or the text's end
-    pub ends-behind : (l : Spot) (end : ℕ) → _≡_ {A = Next} (Ok (l, end)) (read-label c n place (drop place text)) → (n < 16) × (place ≤ end) × (end ≤ length text) × (at-slash (drop end text) ≡ true)
-    unfolding stop
+    pub ends-behind : (l : Spot) (end : ℕ) → Ok (l, end) ≡ read-label c n place (drop place text) → (n < 16) × (place ≤ end) × (end ≤ length text) × (at-slash (drop end text) ≡ true)
     ends-behind l end e =
         let rest = drop place text in
-        let some = not-empty (piece rest) e in
-        let few = not-many (piece rest) e in
+        let (t, reads, is, stop-is) = item-ends (λ l. l) stop (next-label c n place (piece rest)) l end e in
+        let some = not-empty (piece rest) t reads in
+        let few = not-many (piece rest) t reads in
         let size = length-drop place text in
         let within = before-within 47 rest in
-        let stop-is = go (next-label c n place (piece rest)) e in
         let slash = ap at-slash (ap (λ (k : ℕ). drop k text) stop-is ∙ sym (drop-drop (length (piece rest)) place text)) in
         (few, omega arith, omega arith, slash ∙ piece-stops rest)
       where
-        not-empty : (p : List ℕ) → _≡_ {A = Next} (Ok (l, end)) (onward (next-label c n place p) (λ l. Ok (l, stop))) → 0 < length p
-        not-empty [] e = absurd (let z : _≡_ {A = ℕ} 0 1 = cc in omega arith)
-        not-empty (b ∷ bs) e = omega arith
+        not-empty : (p : List ℕ) (t : Spot) → next-label c n place p ≡ Ok t → 0 < length p
+        not-empty [] t e = absurd (let z : _≡_ {A = ℕ} 0 1 = cc in omega arith)
+        not-empty (b ∷ bs) t e = omega arith
 
-        not-many : (p : List ℕ) → _≡_ {A = Next} (Ok (l, end)) (onward (next-label c n place p) (λ l. Ok (l, stop))) → n < 16
-        not-many [] e = absurd (let z : _≡_ {A = ℕ} 0 1 = cc in omega arith)
-        not-many (b ∷ bs) e = ⊎-elim (λ lt. lt) (λ ge. absurd (let z : _≡_ {A = ℕ} 0 1 = grind (arith, tells) in omega arith)) (cases-lt n 16)
-
-        go : (t : Result Spot PathFault) → _≡_ {A = Next} (Ok (l, end)) (onward t (λ l. Ok (l, stop))) → end ≡ stop
-        go (Ok t) e = ap (λ (r : Spot × ℕ). r .1) (same-ok e)
-        go (Err f) e = absurd (let z : _≡_ {A = ℕ} 0 1 = cc in omega arith)
+        not-many : (p : List ℕ) (t : Spot) → next-label c n place p ≡ Ok t → n < 16
+        not-many [] t e = absurd (let z : _≡_ {A = ℕ} 0 1 = cc in omega arith)
+        not-many (b ∷ bs) t e = ⊎-elim (λ lt. lt) (λ ge. absurd (let z : _≡_ {A = ℕ} 0 1 = grind (arith, tells) in omega arith)) (cases-lt n 16)
 
   -- at a slash, a label more follows
   pub next-at-slash : (n at : ℕ) (text : List ℕ) → at < length text → at-slash (drop at text) ≡ true → Labels-from n (at + 1) text (labels-after c n at (drop at text))

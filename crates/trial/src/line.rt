@@ -5,8 +5,8 @@ use crate::fault::LineFault;
 use crate::fault::LineFromPath;
 use crate::labels::read::read_labels;
 use crate::tries::try_path;
-use fitting::fit::Fit;
 use bytes::classes::Classes;
+use fitting::fit::Fit;
 use name::name::Part;
 
 const LONGEST: usize = 200;

@@ -5,12 +5,12 @@ ghost use lib.ListN.{length};
 ghost use Rattle.std.specs.Orderings.{Decides};
 ghost use Rattle.std.specs.Results.{isOk};
 ghost use Rattle.name.specs.Names.{Spot, byte-check, bytes-check, bytes-of, read-name, spot, seen, Is-name};
-use bytes::classes::Class;
-use bytes::classes::Classes;
 use crate::fault::NameCause;
 use crate::fault::NameFault;
 use crate::name::Name;
 use crate::name::Part;
+use bytes::classes::Class;
+use bytes::classes::Classes;
 
 const LONGEST: usize = 16;
 

@@ -5,8 +5,8 @@ ghost use Rattle.trial.specs.Lines.{line-answer};
 ghost use Rattle.trial.specs.Replies.{reply-of, reply-text};
 use crate::line::answer_line;
 use crate::reply::Reply;
-use fitting::fit::Fit;
 use bytes::classes::Classes;
+use fitting::fit::Fit;
 use refusal::shows::RefusalDisplay;
 use std::fmt;
 
