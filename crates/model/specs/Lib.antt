@@ -1,0 +1,15 @@
+pub mod Numbers
+pub mod Paths
+pub mod Ways
+pub mod Rules
+pub mod Locks
+pub mod Arrows
+pub mod Scheduler
+pub mod Changes
+pub mod Refusals
+pub mod Calls
+pub mod History
+pub mod Law
+pub mod Health
+pub mod Meanings
+pub mod Example
