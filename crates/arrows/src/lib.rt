@@ -1,0 +1,2 @@
+// Arrows between places.
+pub mod arrows;

@@ -1,0 +1,3 @@
+// The lock book.
+pub mod book;
+pub mod lock;
