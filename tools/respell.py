@@ -17,7 +17,13 @@ WORD = re.compile(r"[^\s(){}\[\],;.|\"⟦⟧⌜⌝λ]+")
 SIGNATURE = re.compile(r"^(\s*)((?:pub |abbrev |unfoldable |unfold )*)([^\s(){},;.:]+) : (.*)$")
 HEAD = re.compile(r"^\s*(?:pub )?(?:data|record) ([^\s(){},;.:]+)")
 ALIAS = re.compile(r"\bas ([^\s(){},;.:]+)\s*$")
+# bound by a pattern, a binder or a `let`, and so not found by a signature
+VARIABLES = (
+    "down-closed dp-y fits-now fits-room had-h is-clear new-booked no-back no-in no-k no-take no-tally not-star "
+    "same-fits star-outside tally-one under-n up-y wider-hist yes-k"
+).split()
 MADE = re.compile(r"^(goal|given|need)\.")
+LIBRARY = re.compile(r"^(?:pub )?(?:ghost )?use (?:Rattle\.std|lib|borrow|native|mathlib|Prim)\b.*$", re.MULTILINE)
 
 
 def files(kind):
@@ -25,7 +31,7 @@ def files(kind):
 
 
 def own_names():
-    names, types = set(), set()
+    names = set()
     for p in files("antt"):
         for line in open(p, encoding="utf-8"):
             m = SIGNATURE.match(line)
@@ -37,7 +43,25 @@ def own_names():
             m = ALIAS.search(line)
             if m:
                 names.add(m.group(1))
+    names.update(VARIABLES)
     return {n for n in names if "-" in n.strip("-") and re.match(r"^[\w'-]+$", n)}
+
+
+def own_fields():
+    """The fields of the records that specs/ and proofs/ declare."""
+    fields = set()
+    for p in files("antt"):
+        inside = None
+        for line in open(p, encoding="utf-8"):
+            depth = len(line) - len(line.lstrip())
+            if re.match(r"^\s*(?:pub )?record ", line):
+                inside = depth
+            elif line.strip() and inside is not None and depth <= inside:
+                inside = None
+            m = SIGNATURE.match(line)
+            if inside is not None and m:
+                fields.add(m.group(3))
+    return fields
 
 
 def other_words(names):
@@ -68,15 +92,19 @@ def plan():
     return to, kept
 
 
-def respell(text, to):
-    """Turns each word that is no step or field of a value: after a dot only a word of a module's path is turned."""
+def respell(text, to, fields):
+    """Turns each word but the steps of a proof: after a dot only a word of a module's path, and a field of a record of ours.
+    A name that the file imports from the library is the library's."""
+    theirs = {w for line in LIBRARY.findall(text) for w in WORD.findall(line)}
 
     def one(m):
         w = m.group(0)
+        if w in theirs:
+            return w
         before = text[: m.start()]
         if before.endswith("."):
             owner = re.search(r"([^\s(){}\[\],;.|]+)\.$", before)
-            if not owner or owner.group(1)[0].islower():
+            if w not in fields and (not owner or owner.group(1)[0].islower()):
                 return w
         return to.get(w, w)
 
@@ -91,10 +119,11 @@ def main():
         for n, t in kept.items():
             print("kept", n, "for", t)
         return
+    fields = own_fields()
     for p in files("antt") + files("rt"):
         with open(p, encoding="utf-8") as f:
             old = f.read()
-        new = respell(old, to)
+        new = respell(old, to, fields)
         if new != old:
             with open(p, "w", encoding="utf-8") as f:
                 f.write(new)
