@@ -1,5 +1,7 @@
 // Answers each line `LABELPATH EXPRESSION` of standard input: does the label path fit the expression?
-use bytes::classes::Classes;
+#![tactic(auto)]
+
+use byte_classes::classes::Classes;
 use lines::line::Line;
 use std::io::{Read, Write};
 use trial::reply::Reply;

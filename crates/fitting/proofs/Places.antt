@@ -1,15 +1,15 @@
 -- The places of a path from which on its steps fit, label by label from the last.
 -- Assumes nothing.
-use Rattle.std.proofs.Common.{◌≡◌, ℕ, zero, suc, ◌+◌, ◌-◌, ◌*◌, ◌%◌, ◌^◌, ◌<◌, ◌≤◌, Bool, true, false, ◌&&◌, ◌||◌, eqb, ltb, List, [], ◌∷◌, ◌++◌, length, get_or, drop, sym, refl, ap, ◌∙◌, subst, ⊎_elim, arith}
+use Rattle.std.proofs.Common.{◌≡◌, ℕ, zero, suc, ◌+◌, ◌-◌, ◌*◌, ◌%◌, ◌^◌, ◌<◌, ◌≤◌, Bool, false, ◌&&◌, eqb, ltb, List, [], ◌∷◌, ◌++◌, length, get_or, drop, sym, refl, ap, ◌∙◌, ⊎_elim, arith}
 use Rattle.std.proofs.lemmas.List.{drop_all, drop_more}
-use Rattle.std.proofs.lemmas.Bool.{and_right, cases_lt, le-ltb, lt-ltb}
+use Rattle.std.proofs.lemmas.Bool.{cases_lt, le-ltb, lt-ltb}
 use Rattle.std.proofs.lemmas.Bool.Decides.{nat_tests}
 use Rattle.words.specs.Words.{bit}
 use Rattle.words.proofs.Bits.{bit_none, bit_shifted}
 use Rattle.path.specs.declared.step.Step.{Step}
 use Rattle.fitting.specs.declared.fit.Ending.{Ending}
 use Rattle.fitting.specs.declared.fit.Ending.TheVariants.{Closed, Open}
-use Rattle.fitting.specs.Fitting.{ends, fits, passes, takes, Reads}
+use Rattle.fitting.specs.Fitting.{ends, fits, takes, Reads}
 
 module _ {L : Type 0} (same : L → L → Bool) where
   ends_closed : (ss : List (Step L)) (k : ℕ) → k ≤ length ss → ends same Closed (drop k ss) ≡ eqb k (length ss)

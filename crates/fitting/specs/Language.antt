@@ -1,9 +1,9 @@
 -- The label paths that a path expression stands for. `Same` says which labels are the same.
 --
 --   Passes t a            the label a passes the test t
---   StandsFor ss ls      ls is one of the label paths that the steps ss stand for: each step passes one label, in their
+--   StandsFor ss ls       ls is one of the label paths that the steps ss stand for: each step passes one label, in their
 --                         order, and only a deep step leaves labels out, any number of them, in front of the one that it passes
---   FitsPath e ss ls     the label path ls with the ending e fits ss: it is one of their label paths, or some last label
+--   FitsPath e ss ls      the label path ls with the ending e fits ss: it is one of their label paths, or some last label
 --                         makes it one
 --   Says r P              the answer r says whether P holds
 --

@@ -1,4 +1,6 @@
 // Which label paths fit a path expression.
+#![tactic(auto)]
+
 pub mod backward;
 pub mod codes;
 pub mod fit;

@@ -1,2 +1,4 @@
 // Lines of any length in a fixed amount of memory.
+#![tactic(auto)]
+
 pub mod line;

@@ -1,14 +1,13 @@
 -- The bytes that are judged without a fault are those of a name, and judging goes byte by byte.
 -- Assumes nothing.
-use Rattle.std.proofs.Common.{◌≡◌, ℕ, zero, suc, ◌+◌, ◌-◌, ◌<◌, ◌≤◌, Bool, true, false, cond, ◌&&◌, List, [], ◌∷◌, length, get_or, drop, is_ok, Ok, Err, Decides, Result, sym, refl, ap, ◌∙◌, arith}
+use Rattle.std.proofs.Common.{◌≡◌, ℕ, suc, ◌+◌, ◌-◌, ◌<◌, ◌≤◌, true, List, [], ◌∷◌, length, get_or, drop, is_ok, Ok, Err, Decides, Result, sym, refl, ap, ◌∙◌, arith}
 use Rattle.std.proofs.lemmas.List.{drop_more}
 use Rattle.std.proofs.lemmas.Bool.{and_parts, and_from, false≢true}
 use Rattle.std.proofs.lemmas.Bool.Decides.{nat_tests}
-use Rattle.bytes.specs.declared.classes.Classes.{Classes}
+use Rattle.byte_classes.specs.declared.classes.Classes.{Classes}
 use Rattle.name.specs.declared.fault.NameCause.TheVariants.{Empty}
 use Rattle.name.specs.declared.fault.NameFault.{NameFault}
 use Rattle.name.specs.declared.name.Name.{Name}
-use Rattle.bytes.specs.Bytes.{class_of, begins, follows}
 use Rattle.name.specs.Names.{Spot, IsName, all_follow, allowed, byte_check, bytes_check, fault, read_name, seen, then}
 
 pub then_parts : {X E : Type 0} (r : Result (Unit {0}) E) (s : Result X E) → is_ok (then r s) ≡ true → (is_ok r ≡ true) × (is_ok s ≡ true)

@@ -1,6 +1,6 @@
 -- Which texts are names, and what reading one answers.
 --
---   IsName c bs            bs is a name: one to sixteen bytes, the first may begin a name, the others may follow
+--   IsName c bs             bs is a name: one to sixteen bytes, the first may begin a name, the others may follow
 --   fault k at              the fault k, found at the offset at
 --   allowed c n b           the byte b may stand in a name after n others
 --   byte_check c n at b     the fault of the byte b at the offset at, where n bytes of its name stand in front of it
@@ -12,13 +12,13 @@
 --
 -- Assumes nothing.
 use Rattle.std.specs.Prelude.{◌≡◌, ℕ, zero, suc, ◌+◌, ◌≤◌, Bool, true, false, cond, ◌&&◌, List, [], ◌∷◌, length, take, drop, Ok, Err, Result, nat_lt}
-use Rattle.bytes.specs.declared.classes.Classes.{Classes}
+use Rattle.byte_classes.specs.declared.classes.Classes.{Classes}
 use Rattle.name.specs.declared.fault.NameCause.{NameCause}
 use Rattle.name.specs.declared.fault.NameCause.TheVariants.{Empty, Byte, Long}
 use Rattle.name.specs.declared.fault.NameFault.{NameFault}
 use Rattle.name.specs.declared.name.Name.{Name}
 use Rattle.name.specs.declared.name.Part.{Part}
-use Rattle.bytes.specs.Bytes.{class_of, begins, follows}
+use Rattle.byte_classes.specs.Bytes.{class_of, begins, follows}
 
 abbrev pub all_follow : Classes → List ℕ → Bool
 all_follow c [] = true

@@ -1,17 +1,17 @@
 -- What the grammar derives within the sizes, reading accepts.
 -- Assumes nothing.
-use Rattle.std.proofs.Common.{◌≡◌, ℕ, zero, suc, ◌+◌, ◌<◌, ◌≤◌, Bool, true, false, cond, eqb, List, [], ◌∷◌, ◌++◌, map, length, drop, Ok, Err, Result, sym, refl, ap, ◌∙◌, subst, ⊎_elim, arith, length-append}
-use Rattle.std.proofs.lemmas.List.{append_assoc, append_nil, drop_all, length-map, map_append}
-use Rattle.std.proofs.lemmas.Bool.{cases_Bool, eqb-true, false≢true}
+use Rattle.std.proofs.Common.{◌≡◌, ℕ, suc, ◌+◌, ◌<◌, ◌≤◌, Bool, true, false, eqb, List, [], ◌∷◌, ◌++◌, length, drop, Ok, Result, sym, ap, ◌∙◌, subst, ⊎_elim, arith, length-append}
+use Rattle.std.proofs.lemmas.List.{drop_all, length-map, map-append}
+use Rattle.std.proofs.lemmas.Bool.{cases_Bool}
 use Rattle.std.proofs.lemmas.Bool.Decides.{nat_tests}
-use Rattle.bytes.specs.declared.classes.Classes.{Classes}
+use Rattle.byte_classes.specs.declared.classes.Classes.{Classes}
 use Rattle.name.specs.Names.{Spot}
 use Rattle.path.specs.declared.fault.PathFault.{PathFault}
 use Rattle.path.specs.declared.step.Step.{Step}
 use Rattle.path.specs.declared.step.Test.{Test}
 use Rattle.path.specs.Grammar.{AcceptsPaths, PathText, one, child, deep, written}
-use Rattle.path.specs.Pieces.{piece, at_slash}
-use Rattle.path.specs.Reading.{add_step, onward, read_path, step, step_named, step_test, steps_after}
+use Rattle.path.specs.Pieces.{piece}
+use Rattle.path.specs.Reading.{add_step, read_path, step, step_named, step_test, steps_after}
 use Rattle.path.proofs.Derived.{path_derived}
 use Rattle.path.proofs.Pieces.{one_piece, piece_append, slash_free}
 use Rattle.path.proofs.Slashes.{at_none, at_one, at_two, passes_piece}
@@ -109,7 +109,7 @@ module _ (c : Classes) where
         reads = ap (add_step c 0 false at (p ++ 47 ∷ g)) tail
             ∙ (add_step_from c 0 at false (p ++ 47 ∷ g) parts.0 (rest ++ step d said ∷ []) (omega arith) head
             ∙ ap (λ (xs : List (Step Spot)). Ok (xs ++ step d said ∷ [])) (sym parts.5));
-        says = map_append (step_named (λ s. s.bytes)) r.said (step d said ∷ [])
+        says = map-append (step_named (λ s. s.bytes)) r.said (step d said ∷ [])
             ∙ (ap (λ (xs : List (Step (List ℕ))). xs ++ step d (by_bytes said) ∷ []) r.says ∙ ap (λ (u : Test (List ℕ)). ss ++ step d u ∷ []) says);
       }
 

@@ -1,12 +1,10 @@
 -- What reading accepts, the grammar derives.
 -- Assumes nothing.
-use Rattle.std.proofs.Common.{◌≡◌, ℕ, zero, suc, ◌+◌, ◌<◌, ◌≤◌, Bool, true, false, cond, eqb, List, [], ◌∷◌, ◌++◌, map, length, take, drop, Ok, Err, Result, sym, refl, ap, ◌∙◌, subst, ⊎_elim, arith, length-drop}
-use Rattle.std.proofs.lemmas.List.{append_assoc, append_nil}
-use Rattle.std.proofs.lemmas.Bool.{cases_Bool, eqb-true, false≢true}
-use Rattle.std.proofs.lemmas.Bool.Decides.{nat_tests}
-use Rattle.bytes.specs.declared.classes.Classes.{Classes}
+use Rattle.std.proofs.Common.{◌≡◌, ℕ, zero, suc, ◌+◌, ◌≤◌, Bool, true, false, eqb, List, [], ◌∷◌, ◌++◌, length, drop, Ok, sym, ap, ◌∙◌, subst, ⊎_elim, arith, length-drop}
+use Rattle.std.proofs.lemmas.List.{append_assoc, append-nil}
+use Rattle.std.proofs.lemmas.Bool.{cases_Bool, eqb-true}
+use Rattle.byte_classes.specs.declared.classes.Classes.{Classes}
 use Rattle.name.specs.Names.{Spot}
-use Rattle.path.specs.declared.fault.PathFault.{PathFault}
 use Rattle.path.specs.declared.step.Step.{Step}
 use Rattle.path.specs.declared.step.Test.{Test}
 use Rattle.path.specs.Grammar.{PathText, one, child, deep, written}
@@ -40,7 +38,7 @@ module _ (c : Classes) where
   goes_on k n at [] ss le h e p qs d =
       let none : [] ≡ ss = cc in
       subst (λ (us : List (Step Spot)). PathText c (p ++ []) (qs ++ written us)) none
-      (subst (λ (bs : List ℕ). PathText c bs (qs ++ [])) (sym (append_nil p)) (subst (λ (us : List (Step (List ℕ))). PathText c p us) (sym (append_nil qs)) d))
+      (subst (λ (bs : List ℕ). PathText c bs (qs ++ [])) (sym (append-nil p)) (subst (λ (us : List (Step (List ℕ))). PathText c p us) (sym (append-nil qs)) d))
   goes_on zero n at (b ∷ bs) ss le h e p qs d = absurd (omega arith)
   goes_on (suc k) n at (b ∷ []) ss le h e p qs d =
       let parts = add_step_parts c n (at + 1) false [] (Ok []) ss (rw h at e) in

@@ -1,8 +1,8 @@
 -- A path that is read step after step: the steps read so far and those to come.
 -- Assumes nothing.
-use Rattle.std.proofs.Common.{◌≡◌, ℕ, suc, ◌+◌, ◌<◌, ◌≤◌, Bool, true, false, cond, List, [], ◌∷◌, ◌++◌, length, drop, Ok, Err, Result, sym, refl, ap, ◌∙◌, subst, arith, length-append}
-use Rattle.std.proofs.lemmas.List.{append_nil, map_push}
-use Rattle.bytes.specs.declared.classes.Classes.{Classes}
+use Rattle.std.proofs.Common.{◌≡◌, ℕ, suc, ◌≤◌, Bool, true, false, List, [], ◌∷◌, ◌++◌, length, drop, Ok, Err, Result, sym, refl, ap, ◌∙◌, subst, arith, length-append}
+use Rattle.std.proofs.lemmas.List.{append-nil, map_push}
+use Rattle.byte_classes.specs.declared.classes.Classes.{Classes}
 use Rattle.name.specs.declared.name.Name.{Name}
 use Rattle.name.specs.Names.{Spot, spot}
 use Rattle.path.specs.declared.fault.PathFault.{PathFault}
@@ -39,7 +39,7 @@ module _ (c : Classes) (text : List ℕ) where
       ∙ ap (λ (us : List (Step Spot)). onward (steps_after c (length (qs ++ s ∷ [])) end (drop end text)) (λ ss. Ok (us ++ ss))) (sym (map_push (step_named spot) qs s)))))
 
   pub all_read : (S : Result (List (Step Spot)) PathFault) (qs : List (Step Name)) (at : ℕ) → ReadTo S qs at → steps_after c (length qs) at (drop at text) ≡ Ok [] → Ok (spelled qs) ≡ S
-  all_read S qs at e none = sym (e ∙ (ap (λ r. onward r (λ ss. Ok (spelled qs ++ ss))) none ∙ ap (λ (us : List (Step Spot)). Ok us) (append_nil (spelled qs))))
+  all_read S qs at e none = sym (e ∙ (ap (λ r. onward r (λ ss. Ok (spelled qs ++ ss))) none ∙ ap (λ (us : List (Step Spot)). Ok us) (append-nil (spelled qs))))
 
   pub fault_read : (S : Result (List (Step Spot)) PathFault) (qs : List (Step Name)) (at : ℕ) (f : PathFault) → ReadTo S qs at → steps_after c (length qs) at (drop at text) ≡ Err f → Err f ≡ S
   fault_read S qs at f e fault = sym (e ∙ ap (λ r. onward r (λ ss. Ok (spelled qs ++ ss))) fault)

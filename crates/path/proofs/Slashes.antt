@@ -1,17 +1,17 @@
 -- The steps behind the slashes of a text, as they are read one after another.
 -- Assumes nothing.
-use Rattle.std.proofs.Common.{◌≡◌, ℕ, suc, ◌+◌, ◌<◌, ◌≤◌, Bool, true, false, cond, eqb, List, [], ◌∷◌, length, get_or, drop, Ok, Err, Result, sym, refl, ap, ◌∙◌, ⊎_elim, arith, length-drop}
+use Rattle.std.proofs.Common.{◌≡◌, ℕ, suc, ◌+◌, ◌<◌, ◌≤◌, Bool, true, false, eqb, List, [], ◌∷◌, length, drop, Ok, Err, Result, sym, refl, ap, ◌∙◌, ⊎_elim, arith, length-drop}
 use Rattle.std.proofs.lemmas.List.{drop-drop}
 use Rattle.std.proofs.lemmas.Bool.{cases_lt, cond-false, cond-true}
 use Rattle.std.proofs.lemmas.Bool.Decides.{nat_tests}
-use Rattle.bytes.specs.declared.classes.Classes.{Classes}
+use Rattle.byte_classes.specs.declared.classes.Classes.{Classes}
 use Rattle.name.specs.Names.{Spot}
 use Rattle.path.specs.declared.fault.PathFault.{PathFault}
 use Rattle.path.specs.declared.step.Step.{Step}
 use Rattle.path.specs.declared.step.Test.{Test}
 use Rattle.path.specs.Pieces.{piece, at_slash}
 use Rattle.path.specs.Reading.{add_step, next_test, onward, read_behind, step, steps_after}
-use Rattle.path.specs.Tokens.{Shape, child, deep, slash, token_at}
+use Rattle.path.specs.Tokens.{child, deep, token_at}
 use Rattle.name.proofs.Fronts.{before_within}
 use Rattle.path.proofs.Onward.{item_ends, item_faults, item_goes_on}
 use Rattle.path.proofs.Pieces.{piece_stops}

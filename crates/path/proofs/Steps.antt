@@ -1,11 +1,11 @@
 -- What an accepted step says, and how a reading that is accepted falls into its steps.
 -- Assumes nothing.
-use Rattle.std.proofs.Common.{◌≡◌, ℕ, suc, ◌+◌, ◌<◌, ◌≤◌, Bool, true, false, cond, ◌&&◌, eqb, ltb, List, [], ◌∷◌, length, Ok, Err, Result, sym, refl, ap, ◌∙◌, subst, ⊎_elim, arith}
+use Rattle.std.proofs.Common.{◌≡◌, ℕ, ◌+◌, ◌<◌, Bool, true, false, eqb, ltb, List, [], ◌∷◌, length, Ok, Err, Result, sym, refl, ap, ◌∙◌, subst, ⊎_elim, arith}
 use Rattle.std.proofs.lemmas.Bool.{and_parts, cases_Bool, eqb-true, false≢true, ltb-true}
 use Rattle.std.proofs.lemmas.Bool.Decides.{nat_tests}
-use Rattle.bytes.specs.declared.classes.Classes.{Classes}
+use Rattle.byte_classes.specs.declared.classes.Classes.{Classes}
 use Rattle.name.specs.declared.fault.NameFault.{NameFault}
-use Rattle.bytes.specs.Bytes.{begins, class_of, follows}
+use Rattle.byte_classes.specs.Bytes.{begins, class_of, follows}
 use Rattle.name.specs.Names.{IsName, Spot, all_follow, read_name}
 use Rattle.name.proofs.Judged.{name_reads, read_gives}
 use Rattle.path.specs.declared.fault.PathFault.{PathFault}
@@ -15,7 +15,7 @@ use Rattle.path.specs.declared.step.Test.TheVariants as test
 use Rattle.path.specs.Grammar.{StepText, star, name}
 use Rattle.path.specs.Pieces.{piece}
 use Rattle.path.proofs.Pieces.{slash_free}
-use Rattle.path.specs.Reading.{add_step, excess, in_path, named, next_test, onward, star_test, step, step_test}
+use Rattle.path.specs.Reading.{add_step, excess, in_path, named, onward, star_test, step, step_test}
 
 abbrev pub by_bytes : Test Spot → Test (List ℕ)
 by_bytes t = named (λ s. s.bytes) t
@@ -93,12 +93,12 @@ step_accepted c at (name {bs} h) = as_name bs h
     as_name [] (a, le) = absurd (false≢true a)
     as_name (b ∷ bs) (a, le) =
         let p = and_parts _ _ a in
-        let star-outside = ap begins c.star in
-        let not-star : eqb b 42 ≡ false = ⊎_elim (λ yes. absurd (false≢true (sym star-outside ∙ (ap (λ (k : ℕ). begins (class_of c k)) (sym (eqb-true b 42 yes)) ∙ p.0)))) (λ nope. nope) (cases_Bool (eqb b 42)) in
+        let star_outside = ap begins c.star in
+        let not_star : eqb b 42 ≡ false = ⊎_elim (λ yes. absurd (false≢true (sym star_outside ∙ (ap (λ (k : ℕ). begins (class_of c k)) (sym (eqb-true b 42 yes)) ∙ p.0)))) (λ nope. nope) (cases_Bool (eqb b 42)) in
         let reading = name_reads c at (b ∷ bs) (a, le) in
         record {
           said = test.Name (record { bytes = b ∷ bs; at = at });
-          reads = rw (not-star, reading) refl;
+          reads = rw (not_star, reading) refl;
           says = refl;
           free = name_slash_free c (b ∷ bs) (a, le);
           some = omega arith;

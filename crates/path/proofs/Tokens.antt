@@ -1,19 +1,18 @@
 -- What the token at the front of a text says of the step that is read there.
 -- Assumes nothing.
-use Rattle.std.proofs.Common.{◌≡◌, ℕ, suc, ◌+◌, ◌<◌, ◌≤◌, Bool, true, false, cond, ◌||◌, eqb, List, [], ◌∷◌, length, get_or, drop, Ok, Err, Result, sym, refl, ap, ◌∙◌, arith, length-drop}
+use Rattle.std.proofs.Common.{◌≡◌, ℕ, suc, ◌+◌, ◌<◌, true, false, cond, ◌||◌, eqb, List, [], ◌∷◌, length, get_or, drop, Ok, Err, refl, ap, ◌∙◌, arith, length-drop}
 use Rattle.std.proofs.lemmas.List.{at_drop_more, drop-drop}
 use Rattle.std.proofs.lemmas.Bool.Decides.{nat_tests}
-use Rattle.bytes.specs.declared.classes.Classes.{Classes}
+use Rattle.byte_classes.specs.declared.classes.Classes.{Classes}
 use Rattle.name.specs.declared.fault.NameCause.TheVariants.{Byte}
-use Rattle.bytes.specs.Bytes.{begins, class_of}
+use Rattle.byte_classes.specs.Bytes.{begins, class_of}
 use Rattle.name.specs.Names.{Spot, fault, read_name}
 use Rattle.path.specs.declared.fault.PathFault.{PathFault}
 use Rattle.path.specs.declared.fault.PathFault.TheVariants as fault_in
-use Rattle.path.specs.declared.step.Test.{Test}
 use Rattle.path.specs.declared.step.Test.TheVariants as test
 use Rattle.path.specs.Pieces.{piece, at_slash}
 use Rattle.path.specs.Reading.{excess, in_path, onward, read_step, star_test, step_test}
-use Rattle.path.specs.Tokens.{Shape, child, deep, end, name, star, slash, token_at}
+use Rattle.path.specs.Tokens.{name, star, slash, token_at}
 
 slash_is_no_star : (bs : List ℕ) → slash bs ≡ star → ⊥
 slash_is_no_star [] e = let z : ◌≡◌ {A = ℕ} 0 1 = cc in omega arith

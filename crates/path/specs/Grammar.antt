@@ -2,12 +2,12 @@
 --
 --   StepText c bs t      F derives the bytes bs, which say the test t
 --   PathText c bs ss     P derives the bytes bs, which say the steps ss
---   written ss            the steps ss by the bytes of their names
+--   written ss           the steps ss by the bytes of their names
 --   AcceptsPaths c bs r  the answer r to reading bs accepts exactly the paths of at most eight steps, each as its steps
 --
 -- Assumes nothing.
-use Rattle.std.specs.Prelude.{◌≡◌, ℕ, ◌≤◌, true, false, List, [], ◌∷◌, ◌++◌, map, length, Ok, Err, Result}
-use Rattle.bytes.specs.declared.classes.Classes.{Classes}
+use Rattle.std.specs.Prelude.{◌≡◌, ℕ, ◌≤◌, true, false, List, [], ◌∷◌, ◌++◌, map, length, Ok, Result}
+use Rattle.byte_classes.specs.declared.classes.Classes.{Classes}
 use Rattle.name.specs.Names.{IsName, Spot}
 use Rattle.path.specs.declared.fault.PathFault.{PathFault}
 use Rattle.path.specs.declared.step.Step.{Step}

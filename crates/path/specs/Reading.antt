@@ -11,11 +11,11 @@
 --
 -- Assumes nothing.
 use Rattle.std.specs.Prelude.{◌≡◌, ℕ, suc, ◌+◌, ◌<◌, ◌≤◌, Bool, true, false, cond, ◌||◌, List, [], ◌∷◌, map, length, drop, Some, None, Ok, Err, Option, Result, ◌==◌, nat_lt}
-use Rattle.bytes.specs.declared.classes.Classes.{Classes}
+use Rattle.byte_classes.specs.declared.classes.Classes.{Classes}
 use Rattle.name.specs.declared.fault.NameCause.TheVariants.{Byte}
 use Rattle.name.specs.declared.fault.NameFault.{NameFault}
 use Rattle.name.specs.declared.name.Name.{Name}
-use Rattle.bytes.specs.Bytes.{class_of, begins}
+use Rattle.byte_classes.specs.Bytes.{class_of, begins}
 use Rattle.name.specs.Names.{Spot, fault, read_name, spot}
 use Rattle.path.specs.declared.fault.PathFault.{PathFault}
 use Rattle.path.specs.declared.fault.PathFault.TheVariants as fault_in

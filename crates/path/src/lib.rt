@@ -1,4 +1,6 @@
 // Path expressions: their steps, and reading them from a text.
+#![tactic(auto)]
+
 pub mod coded;
 pub mod fault;
 pub mod path;

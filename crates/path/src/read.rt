@@ -10,7 +10,7 @@ use crate::path::Path;
 use crate::step::{Step, Test};
 use crate::token::Token;
 use crate::token::first::first_token;
-use bytes::classes::{Class, Classes};
+use byte_classes::classes::{Class, Classes};
 use name::fault::{NameCause, NameFault};
 use name::name::{Name, Part};
 

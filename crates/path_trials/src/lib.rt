@@ -1,3 +1,5 @@
 // Trials of paths over label codes: their sizes, and open endings.
+#![tactic(auto)]
+
 #[cfg(test)]
 mod codes;

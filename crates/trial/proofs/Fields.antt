@@ -1,17 +1,15 @@
 -- The fields of a line, and which of them decides the answer.
 -- Assumes nothing.
-use Rattle.std.proofs.Common.{◌≡◌, ℕ, suc, ◌+◌, ◌<◌, ◌≤◌, Bool, true, false, cond, eqb, ltb, List, [], ◌∷◌, ◌++◌, length, drop, Ok, Err, Result, sym, refl, ap, ◌∙◌, subst, arith, length-append}
-use Rattle.std.proofs.lemmas.List.{drop_at}
+use Rattle.std.proofs.Common.{◌≡◌, ℕ, suc, ◌+◌, ◌≤◌, Bool, true, false, cond, ltb, List, [], ◌∷◌, ◌++◌, length, drop, Ok, Err, Result, refl, ap, ◌∙◌, arith, length-append}
 use Rattle.std.proofs.lemmas.Bool.{cond-false, cond-true, eq-eqb, le-ltb, ne_eqb}
 use Rattle.std.proofs.lemmas.Bool.Decides.{nat_tests}
-use Rattle.bytes.specs.declared.classes.Classes.{Classes}
+use Rattle.byte_classes.specs.declared.classes.Classes.{Classes}
 use Rattle.name.specs.Parts.{before}
-use Rattle.path.specs.declared.fault.PathFault.{PathFault}
 use Rattle.path.specs.Reading.{onward}
 use Rattle.fitting.specs.declared.fit.Fit.{Fit}
 use Rattle.trial.specs.declared.fault.LineFault.{LineFault}
 use Rattle.trial.specs.declared.fault.LineFault.TheVariants.{Field}
-use Rattle.trial.specs.Lines.{IsField, TriesFields, both_fields, fields_answer, first, in_line, line_answer, no_expression, second, second_at, spaceless}
+use Rattle.trial.specs.Lines.{TriesFields, both_fields, fields_answer, first, in_line, line_answer, no_expression, second, second_at, spaceless}
 use Rattle.trial.specs.Tries.{try_answer}
 
 module _ (c : Classes) (line : List ℕ) (short : length line ≤ 200) where

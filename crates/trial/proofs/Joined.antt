@@ -1,10 +1,10 @@
 -- Reading accepts exactly the names joined by slashes.
 -- Assumes nothing.
-use Rattle.std.proofs.Common.{◌≡◌, ℕ, zero, suc, ◌+◌, ◌<◌, ◌≤◌, Bool, true, false, cond, eqb, ltb, List, [], ◌∷◌, ◌++◌, map, length, drop, Ok, Err, Result, sym, refl, ap, ◌∙◌, subst, ⊎_elim, arith, length-drop}
-use Rattle.std.proofs.lemmas.List.{append_nil, drop_at, length-map}
-use Rattle.std.proofs.lemmas.Bool.{cases_Bool, cases_lt, cond-true, eqb-true, false≢true, ltb-true}
+use Rattle.std.proofs.Common.{◌≡◌, ℕ, zero, suc, ◌+◌, ◌<◌, ◌≤◌, true, ltb, List, [], ◌∷◌, ◌++◌, length, drop, Ok, Err, Result, sym, refl, ap, ◌∙◌, subst, ⊎_elim, arith, length-drop}
+use Rattle.std.proofs.lemmas.List.{append-nil, drop_at, length-map}
+use Rattle.std.proofs.lemmas.Bool.{cases_Bool, cond-true, eqb-true, false≢true, ltb-true}
 use Rattle.std.proofs.lemmas.Bool.Decides.{nat_tests}
-use Rattle.bytes.specs.declared.classes.Classes.{Classes}
+use Rattle.byte_classes.specs.declared.classes.Classes.{Classes}
 use Rattle.name.specs.declared.fault.NameFault.{NameFault}
 use Rattle.name.specs.Names.{IsName, Spot, read_name}
 use Rattle.name.proofs.Judged.{name_reads, read_gives}
@@ -22,7 +22,7 @@ slashed [] = []
 slashed (l ∷ ls) = 47 ∷ l ++ slashed ls
 
 joined_slashed : (l : List ℕ) (ls : List (List ℕ)) → joined (l ∷ ls) ≡ l ++ slashed ls
-joined_slashed l [] = sym (append_nil l)
+joined_slashed l [] = sym (append-nil l)
 joined_slashed l (k ∷ ls) = ap (λ (bs : List ℕ). l ++ 47 ∷ bs) (joined_slashed k ls)
 
 slashed_stops : (ls : List (List ℕ)) → at_slash (slashed ls) ≡ true

@@ -1,16 +1,16 @@
 -- One label: what stands up to the next slash.
 -- Assumes nothing.
-use Rattle.std.proofs.Common.{◌≡◌, ℕ, suc, ◌+◌, ◌<◌, ◌≤◌, Bool, true, false, cond, eqb, ltb, List, [], ◌∷◌, length, get_or, drop, Ok, Err, Result, sym, refl, ap, ◌∙◌, subst, arith, length-drop}
+use Rattle.std.proofs.Common.{◌≡◌, ℕ, ◌+◌, ◌<◌, ◌≤◌, cond, ltb, List, [], ◌∷◌, length, get_or, drop, Ok, Err, Result, arith, length-drop}
 use Rattle.std.proofs.lemmas.List.{drop_more}
 use Rattle.std.proofs.lemmas.Bool.Decides.{nat_tests}
-use Rattle.bytes.specs.declared.classes.Classes.{Classes}
+use Rattle.byte_classes.specs.declared.classes.Classes.{Classes}
 use Rattle.name.specs.declared.fault.NameFault.{NameFault}
 use Rattle.name.specs.Names.{Spot, read_name}
 use Rattle.name.proofs.Fronts.{before_within}
 use Rattle.path.specs.declared.fault.PathFault.{PathFault}
 use Rattle.path.specs.declared.fault.PathFault.TheVariants as fault_in
 use Rattle.path.specs.Pieces.{piece}
-use Rattle.path.specs.Reading.{in_path, onward}
+use Rattle.path.specs.Reading.{in_path}
 use Rattle.trial.specs.Labels.{excess, next_label, read_label}
 
 -- one label and where it ends, or a fault

@@ -1,10 +1,10 @@
 -- Reading a label path label after label.
 -- Assumes nothing.
-use Rattle.std.proofs.Common.{◌≡◌, ℕ, zero, suc, ◌+◌, ◌<◌, ◌≤◌, Bool, true, false, cond, eqb, ltb, List, [], ◌∷◌, ◌++◌, map, length, get_or, drop, Ok, Err, Result, sym, refl, ap, ◌∙◌, subst, ⊎_elim, arith, length-append, length-drop}
-use Rattle.std.proofs.lemmas.List.{append_nil, drop_all, drop-drop, drop_more, map_push}
+use Rattle.std.proofs.Common.{◌≡◌, ℕ, suc, ◌+◌, ◌<◌, ◌≤◌, true, eqb, List, [], ◌∷◌, ◌++◌, map, length, get_or, drop, Ok, Err, Result, sym, refl, ap, ◌∙◌, ⊎_elim, arith, length-append, length-drop}
+use Rattle.std.proofs.lemmas.List.{append-nil, drop_all, drop-drop, drop_more, map_push}
 use Rattle.std.proofs.lemmas.Bool.{cases_lt, cond-true}
 use Rattle.std.proofs.lemmas.Bool.Decides.{nat_tests}
-use Rattle.bytes.specs.declared.classes.Classes.{Classes}
+use Rattle.byte_classes.specs.declared.classes.Classes.{Classes}
 use Rattle.name.specs.declared.name.Name.{Name}
 use Rattle.name.specs.Names.{Spot, spot}
 use Rattle.name.proofs.Fronts.{before_within}
@@ -88,4 +88,4 @@ module _ (c : Classes) where
 
     pub all_read : (S : Result (List Spot) PathFault) (qs : List Name) (at : ℕ) → ReadTo S qs at → length text ≤ at → Ok (map spot qs) ≡ S
     all_read S qs at e end =
-        sym (e ∙ (ap (λ (bs : List ℕ). onward (labels_after c (length qs) at bs) (λ ls. Ok (map spot qs ++ ls))) (drop_all at text end) ∙ ap (λ (us : List Spot). Ok us) (append_nil (map spot qs))))
+        sym (e ∙ (ap (λ (bs : List ℕ). onward (labels_after c (length qs) at bs) (λ ls. Ok (map spot qs ++ ls))) (drop_all at text end) ∙ ap (λ (us : List Spot). Ok us) (append-nil (map spot qs))))

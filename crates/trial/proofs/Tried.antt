@@ -1,10 +1,10 @@
 -- What trying answers, and what the answer means.
 -- Assumes nothing.
-use Rattle.std.proofs.Common.{◌≡◌, ℕ, ◌≤◌, Bool, List, [], ◌∷◌, map, length, Ok, Err, Result, sym, refl, ap, ◌∙◌, subst, arith}
+use Rattle.std.proofs.Common.{◌≡◌, ℕ, List, [], map, Ok, Err, Result, sym, refl, ap, ◌∙◌, subst, arith}
 use Rattle.std.proofs.lemmas.Slice.Eq.{bytes_eq-Decides}
 use Rattle.std.proofs.lemmas.List.{length-map}
 use Rattle.std.specs.Str.{bytes_eq}
-use Rattle.bytes.specs.declared.classes.Classes.{Classes}
+use Rattle.byte_classes.specs.declared.classes.Classes.{Classes}
 use Rattle.name.specs.declared.name.Name.{Name}
 use Rattle.name.specs.Names.{Spot, spot}
 use Rattle.path.specs.declared.fault.PathFault.{PathFault}
@@ -18,7 +18,7 @@ use Rattle.fitting.specs.declared.fit.Fit.{Fit}
 use Rattle.fitting.specs.Fitting.{fits, verdict}
 use Rattle.fitting.specs.Language.{Says, StandsFor}
 use Rattle.fitting.proofs.Exact.{fits_by_equation, fits_named}
-use Rattle.trial.specs.Labels.{joined, read_labels, written}
+use Rattle.trial.specs.Labels.{read_labels, written}
 use Rattle.trial.specs.Tries.{BothRead, Tries, same_bytes, try_answer}
 use Rattle.trial.proofs.Joined.{accepts_labels}
 

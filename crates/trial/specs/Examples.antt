@@ -7,11 +7,11 @@
 --   all_hold xs      each of them holds
 --
 -- Assumes nothing.
-use Rattle.std.specs.Prelude.{◌≡◌, ℕ, zero, suc, Bool, true, false, ◌&&◌, List, [], ◌∷◌, Ok, Err, codes, Result, refl}
+use Rattle.std.specs.Prelude.{ℕ, zero, suc, Bool, true, false, ◌&&◌, List, [], ◌∷◌, Ok, Err, codes, Result, refl}
 use Rattle.std.specs.Str.{bytes_eq}
-use Rattle.bytes.specs.declared.classes.Class.{Class}
-use Rattle.bytes.specs.declared.classes.Classes.{Classes}
-use Rattle.bytes.specs.Bytes.{xml_class}
+use Rattle.byte_classes.specs.declared.classes.Class.{Class}
+use Rattle.byte_classes.specs.declared.classes.Classes.{Classes}
+use Rattle.byte_classes.specs.Bytes.{xml_class}
 use Rattle.name.specs.Names.{Spot}
 use Rattle.path.specs.declared.fault.PathFault.{PathFault}
 use Rattle.path.specs.declared.step.Step.{Step}

@@ -1,21 +1,21 @@
 -- Label paths as they are written: one to sixteen names joined by slashes.
 --
 --   joined ls              the names ls with a slash between each two
---   IsLabelPath c ls     ls are one to sixteen names
+--   IsLabelPath c ls       ls are one to sixteen names
 --   excess c at b          the fault of a seventeenth label that begins with b; a bad byte is told first
 --   next_label c n at p    the label that the bytes p are, behind n others
 --   add_label c n at bs r  the label at the front of bs, behind n others, and then the labels r
 --   labels_after c n at bs the labels behind the slashes of bs, where n labels are read
 --   read_labels c at bs    what reading bs, at the offset at, as a label path answers
 --   seen_labels r          what the answer of a reading says of the text
---   AcceptsLabels c bs r  the answer r to reading bs accepts exactly the label paths, each as its names
+--   AcceptsLabels c bs r   the answer r to reading bs accepts exactly the label paths, each as its names
 --
 -- Assumes nothing.
-use Rattle.std.specs.Prelude.{◌≡◌, ℕ, suc, ◌+◌, ◌≤◌, Bool, true, cond, List, [], ◌∷◌, ◌++◌, map, length, Ok, Err, Result, ◌==◌, nat_lt}
-use Rattle.bytes.specs.declared.classes.Classes.{Classes}
+use Rattle.std.specs.Prelude.{◌≡◌, ℕ, suc, ◌+◌, ◌≤◌, cond, List, [], ◌∷◌, ◌++◌, map, length, Ok, Err, Result, ◌==◌, nat_lt}
+use Rattle.byte_classes.specs.declared.classes.Classes.{Classes}
 use Rattle.name.specs.declared.fault.NameCause.TheVariants.{Byte}
 use Rattle.name.specs.declared.name.Name.{Name}
-use Rattle.bytes.specs.Bytes.{begins, class_of}
+use Rattle.byte_classes.specs.Bytes.{begins, class_of}
 use Rattle.name.specs.Names.{IsName, Spot, fault, read_name, spot}
 use Rattle.path.specs.declared.fault.PathFault.{PathFault}
 use Rattle.path.specs.declared.fault.PathFault.TheVariants as fault_in

@@ -6,11 +6,11 @@
 --   fields_answer c line       what the fields are answered, judged from the left: a missing or empty expression after the
 --                              label path is read, a surplus field after the expression is
 --   line_answer c line         the same, where a line too long is told first
---   TriesFields c line r      two fields with one space between them, in at most 200 bytes, are answered as they are tried
+--   TriesFields c line r       two fields with one space between them, in at most 200 bytes, are answered as they are tried
 --
 -- Assumes nothing.
 use Rattle.std.specs.Prelude.{◌≡◌, ℕ, ◌+◌, ◌<◌, ◌≤◌, min, Bool, true, false, cond, List, [], ◌∷◌, ◌++◌, length, drop, Ok, Err, Result, ◌==◌, nat_lt}
-use Rattle.bytes.specs.declared.classes.Classes.{Classes}
+use Rattle.byte_classes.specs.declared.classes.Classes.{Classes}
 use Rattle.name.specs.Parts.{before}
 use Rattle.path.specs.declared.fault.PathFault.{PathFault}
 use Rattle.path.specs.Reading.{onward}

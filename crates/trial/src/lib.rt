@@ -1,4 +1,6 @@
 // Trying a written label path against an expression, without a tree.
+#![tactic(auto)]
+
 pub mod examples;
 pub mod fault;
 pub mod labels;

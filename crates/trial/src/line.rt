@@ -5,7 +5,7 @@ ghost use Rattle.trial.specs.Lines.{line_answer, TriesFields};
 use crate::fault::LineFault;
 use crate::labels::read::read_labels;
 use crate::tries::try_path;
-use bytes::classes::Classes;
+use byte_classes::classes::Classes;
 use fitting::fit::Fit;
 use name::name::Part;
 

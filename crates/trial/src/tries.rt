@@ -4,7 +4,7 @@ ghost use Rattle.name.specs.Names.{bytes_of};
 ghost use Rattle.trial.specs.Tries.{try_answer, Tries};
 
 use crate::labels::read::read_labels;
-use bytes::classes::Classes;
+use byte_classes::classes::Classes;
 use fitting::fit::{Ending, Fit};
 use fitting::fits::fits;
 use name::name::Part;

@@ -1,4 +1,6 @@
 // Sets of places from 0 to 31 as words: place k is in the set where bit k is set.
+#![tactic(auto)]
+
 ghost use Rattle.std.specs.Prelude.{◌≡◌, ℕ, ◌<◌, not, ◌&&◌, ◌||◌, ◌==◌, nat_lt};
 ghost use Rattle.words.specs.Words.{bit};
 

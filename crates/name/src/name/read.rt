@@ -4,7 +4,7 @@ ghost use Rattle.name.specs.Names.{Spot, byte_check, bytes_check, bytes_of, read
 
 use crate::fault::{NameCause, NameFault};
 use crate::name::{Name, Part};
-use bytes::classes::{Class, Classes};
+use byte_classes::classes::{Class, Classes};
 
 const LONGEST: usize = 16;
 

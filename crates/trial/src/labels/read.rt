@@ -5,7 +5,7 @@ ghost use Rattle.path.specs.Pieces.{piece};
 ghost use Rattle.trial.specs.Labels.{excess, read_label, read_labels, seen_label, seen_labels, AcceptsLabels};
 
 use crate::labels::Labels;
-use bytes::classes::{Class, Classes};
+use byte_classes::classes::{Class, Classes};
 use name::fault::{NameCause, NameFault};
 use name::name::{Name, Part};
 use path::fault::PathFault;

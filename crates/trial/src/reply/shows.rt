@@ -5,7 +5,7 @@ ghost use Rattle.trial.specs.Replies.{reply_of, reply_text};
 
 use crate::line::answer_line;
 use crate::reply::Reply;
-use bytes::classes::Classes;
+use byte_classes::classes::Classes;
 use fitting::fit::Fit;
 use std::fmt;
 

@@ -1,4 +1,4 @@
-use Rattle.std.proofs.Common.{◌≡◌, ℕ, ◌+◌, ◌<◌, Bool, true, false, ◌&&◌, ◌||◌, eqb, ltb, List, ◌∷◌, length, get_or, sym, ap, ◌∙◌, subst, arith, length-take}
+use Rattle.std.proofs.Common.{◌≡◌, ℕ, ◌+◌, Bool, true, false, ◌&&◌, ◌||◌, eqb, ltb, List, length, get_or, sym, ap, ◌∙◌, subst, arith, length-take}
 use Rattle.std.proofs.lemmas.List.{get_or_default}
 use Rattle.std.proofs.lemmas.Bool.{lt-ltb}
 use Rattle.std.proofs.lemmas.Bool.Decides.{nat_tests}
@@ -7,7 +7,7 @@ use Rattle.words.proofs.Bits.{bit_none, place_left, place_put}
 use Rattle.path.specs.declared.step.Step.{Step}
 use Rattle.path.specs.declared.step.Test.TheVariants.{Star}
 use Rattle.path.specs.Paths.{steps_of}
-use Rattle.fitting.specs.Fitting.{Reads, takes}
+use Rattle.fitting.specs.Fitting.{takes}
 use Rattle.fitting.proofs.Places.{goes_back}
 use Rattle.fitting.proofs.backward.back.Goals as goal
 use Rattle.fitting.proofs.backward.back.Goals.{then-takes, else-takes}

@@ -1,4 +1,4 @@
-use Rattle.std.proofs.Common.{◌≡◌, ◌-◌, ◌*◌, ◌%◌, ◌^◌, [], length, sym, ap, ◌∙◌, subst, arith}
+use Rattle.std.proofs.Common.{◌-◌, ◌*◌, ◌%◌, ◌^◌, [], sym, subst, arith}
 use Rattle.path.specs.Paths.{steps_of}
 use Rattle.fitting.specs.declared.fit.Ending.{Ending}
 use Rattle.fitting.specs.Fitting.{Reads}

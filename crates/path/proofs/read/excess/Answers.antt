@@ -1,7 +1,7 @@
 use Rattle.std.proofs.Common.{◌≡◌, ℕ, false, List, sym, ap, ⊎_elim, arith}
 use Rattle.std.proofs.lemmas.List.{at_drop_all}
 use Rattle.std.proofs.lemmas.Bool.Decides.{nat_tests}
-use Rattle.bytes.specs.Bytes.{begins}
+use Rattle.byte_classes.specs.Bytes.{begins}
 use Rattle.path.specs.declared.fault.PathFault.{PathFault}
 use Rattle.path.specs.Pieces.{piece}
 use Rattle.path.specs.Reading.{excess}
@@ -33,5 +33,5 @@ returns-in-Begins c =
 pub returns-in-Follows : goal.returns-in-Follows
 returns-in-Follows c =
     let e = excess_at c.args.classes.now c.args.part.at c.args.part.text.now c.if-at-part.false in
-    let class : begins c.class-of.result ≡ false = ⊎_elim (ap begins) (ap begins) c.in-Follows.is in
+    let class : begins c.class_of.result ≡ false = ⊎_elim (ap begins) (ap begins) c.in-Follows.is in
     grind (arith, nat_tests)

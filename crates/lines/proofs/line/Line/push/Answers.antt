@@ -1,4 +1,4 @@
-use Rattle.std.proofs.Common.{◌≡◌, ◌+◌, ◌≤◌, [], ◌∷◌, ◌++◌, length, take, sym, ◌∙◌, arith, length-append, length-take}
+use Rattle.std.proofs.Common.{[], ◌∷◌, ◌++◌, sym, ◌∙◌, arith, length-append}
 use Rattle.std.proofs.lemmas.List.{length-take-le, take_all, take-append-le, take_more_set}
 use Rattle.lines.specs.Held.{held_bytes}
 use Rattle.lines.proofs.line.Line.push.Goals as goal

@@ -1,6 +1,5 @@
-use Rattle.std.proofs.Common.{◌≡◌, ℕ, ◌+◌, ◌-◌, ◌<◌, ◌≤◌, length, drop, sym, refl, ap, ◌∙◌, arith}
+use Rattle.std.proofs.Common.{◌≡◌, ℕ, ◌-◌, drop, sym, ap, ◌∙◌, arith}
 use Rattle.std.proofs.lemmas.List.{drop_all}
-use Rattle.std.proofs.lemmas.Bool.Decides.{nat_tests}
 use Rattle.name.specs.Names.{bytes_check}
 use Rattle.name.proofs.Judged.{judges_next}
 use Rattle.name.proofs.name.read.check_bytes.Goals as goal
@@ -16,15 +15,15 @@ loop-place-preserved c =
     let p = c.args.part in
     let at = c.loop-place.place in
     let next = judges_next c.args.classes.now p.at at p.text.now (omega arith) (omega arith) in
-    let passed = c.in-ok-check-byte.ensures in
+    let passed = c.in_ok-check_byte.ensures in
     grind arith
 
-pub returns-in-err-check-byte : goal.returns-in-err-check-byte
-returns-in-err-check-byte c =
+pub returns-in_err-check_byte : goal.returns-in_err-check_byte
+returns-in_err-check_byte c =
     let p = c.args.part in
     let at = c.loop-place.place in
     let next = judges_next c.args.classes.now p.at at p.text.now (omega arith) (omega arith) in
-    let fault = c.in-err-check-byte.ensures in
+    let fault = c.in_err-check_byte.ensures in
     grind arith
 
 pub returns : goal.returns

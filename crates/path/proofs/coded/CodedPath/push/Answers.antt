@@ -1,4 +1,4 @@
-use Rattle.std.proofs.Common.{◌≡◌, ℕ, Bool, true, cond, List, [], ◌∷◌, ◌++◌, sym, ap, ◌∙◌}
+use Rattle.std.proofs.Common.{◌≡◌, ℕ, true, cond, List, [], ◌∷◌, ◌++◌, sym, ap, ◌∙◌}
 use Rattle.std.proofs.lemmas.Bool.{and_from, and_parts, cond_both}
 use Rattle.path.specs.declared.step.Step.{Step}
 use Rattle.path.specs.Codes.{coded, is_coded}
@@ -9,11 +9,11 @@ coded_push : (ss : List (Step ℕ)) (s : Step ℕ) → coded ss ≡ true → is_
 coded_push [] s h k = and_from _ _ k h
 coded_push (x ∷ ss) s h k = let p = and_parts _ _ h in and_from _ _ p.0 (coded_push ss s p.1 k)
 
-pub invariant-of-self : goal.invariant-of-self
-invariant-of-self c =
+pub invariant_of-self : goal.invariant_of-self
+invariant_of-self c =
     let qs = steps_of c.args.self.now.path in
     let s = c.args.step in
     let whole = c.args.self.now.codes in
-    let named : is_coded s.test ≡ true = sym c.if-is-coded.ensures in
+    let named : is_coded s.test ≡ true = sym c.if-is_coded.ensures in
     let kept : coded (cond c.push.result (qs ++ s ∷ []) qs) ≡ true = cond_both c.push.result (qs ++ s ∷ []) qs (λ (xs : List (Step ℕ)). coded xs ≡ true) (λ e. coded_push qs s whole named) (λ e. whole) in
-    (ap coded c.push.ensures.after ∙ kept, tt)
+    record { codes = ap coded c.push.ensures.after ∙ kept }

@@ -1,7 +1,6 @@
 use Rattle.std.proofs.Common.{sym, arith, length-take}
 use Rattle.std.proofs.lemmas.List.{take_more_set}
 use Rattle.std.proofs.lemmas.Bool.{lt-ltb}
-use Rattle.path.specs.Paths.{steps_of}
 use Rattle.path.proofs.path.Path.push.Goals as goal
 
 pub returns : goal.returns

@@ -1,7 +1,6 @@
 use Rattle.std.proofs.Common.{sym, arith, length-take}
 use Rattle.std.proofs.lemmas.List.{take_more_set}
 use Rattle.std.proofs.lemmas.Bool.{lt-ltb}
-use Rattle.trial.specs.Rows.{names_of}
 use Rattle.trial.proofs.labels.Labels.push.Goals as goal
 
 pub returns : goal.returns

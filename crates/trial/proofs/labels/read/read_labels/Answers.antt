@@ -1,13 +1,13 @@
-use Rattle.std.proofs.Common.{◌≡◌, ℕ, suc, ◌+◌, ◌<◌, List, [], ◌∷◌, ◌++◌, map, length, drop, Ok, Err, Result, sym, refl, ap, ◌∙◌, subst, arith}
+use Rattle.std.proofs.Common.{◌≡◌, ℕ, ◌+◌, List, [], ◌∷◌, ◌++◌, map, length, drop, Ok, Err, Result, sym, refl, ap, ◌∙◌, subst, arith}
 use Rattle.std.proofs.lemmas.Result.{err_from_is_err_and}
 use Rattle.std.proofs.lemmas.Bool.{cond-true, lt-ltb}
-use Rattle.bytes.specs.declared.classes.Classes.{Classes}
+use Rattle.byte_classes.specs.declared.classes.Classes.{Classes}
 use Rattle.name.specs.declared.name.Name.{Name}
 use Rattle.name.specs.Names.{bytes_of, spot}
 use Rattle.path.specs.declared.fault.PathFault.{PathFault}
 use Rattle.path.specs.Reading.{onward}
 use Rattle.trial.specs.declared.labels.Labels.{Labels}
-use Rattle.trial.specs.Labels.{AcceptsLabels, labels_after, read_label, read_labels, seen_label, seen_labels}
+use Rattle.trial.specs.Labels.{AcceptsLabels, labels_after, read_label, read_labels, seen_labels}
 use Rattle.trial.specs.Rows.{names_of}
 use Rattle.trial.proofs.Joined.{accepts_labels}
 use Rattle.trial.proofs.Label.{Next}
@@ -18,24 +18,24 @@ use Rattle.trial.proofs.labels.read.read_labels.Goals as goal
 told : (k : Classes) (at : ℕ) (bs : List ℕ) (r : Result Labels PathFault) → seen_labels r ≡ read_labels k at bs → AcceptsLabels k bs (seen_labels r)
 told k at bs r e = subst (AcceptsLabels k bs) (sym e) (accepts_labels k at bs)
 
-pub returns-in-err-first : goal.returns-in-err-first
-returns-in-err-first c =
+pub returns-in_err-first : goal.returns-in_err-first
+returns-in_err-first c =
     let p = c.args.part in
     let k = c.args.classes.now in
-    let fault = faults_behind k 0 p.at p.text.now (read_labels k p.at (bytes_of p)) refl c.in-err-first.field-0.0 c.in-err-first.ensures in
-    let q = err_from_is_err_and c.from-residual.result c.from-residual.ensures.1 in
-    let e : seen_labels c.from-residual.result ≡ read_labels k p.at (bytes_of p) = ap seen_labels (q.1 ∙ ap (λ (f : PathFault). Err f) q.2) ∙ sym fault in
-    record { answer = e; accepts = told k p.at (bytes_of p) c.from-residual.result e }
+    let fault = faults_behind k 0 p.at p.text.now (read_labels k p.at (bytes_of p)) refl c.in_err-first.field-0.0 c.in_err-first.ensures in
+    let q = err_from_is_err_and c.from_residual.result c.from_residual.ensures.1 in
+    let e : seen_labels c.from_residual.result ≡ read_labels k p.at (bytes_of p) = ap seen_labels (q.1 ∙ ap (λ (f : PathFault). Err f) q.2) ∙ sym fault in
+    record { answer = e; accepts = told k p.at (bytes_of p) c.from_residual.result e }
 
 pub loop-at-init : goal.loop-at-init
 loop-at-init c =
     let p = c.args.part in
     let k = c.args.classes.now in
-    let l = c.in-ok-first.first in
-    let end = c.in-ok-first.end in
+    let l = c.in_ok-first.first in
+    let end = c.in_ok-first.end in
     let S = read_labels k p.at (bytes_of p) in
-    let well = ends_behind k 0 p.at p.text.now (spot l) end c.in-ok-first.ensures in
-    let first : ReadTo k p.text.now S (l ∷ []) end = goes_on_behind k 0 p.at p.text.now S refl (spot l) end c.in-ok-first.ensures in
+    let well = ends_behind k 0 p.at p.text.now (spot l) end c.in_ok-first.ensures in
+    let first : ReadTo k p.text.now S (l ∷ []) end = goes_on_behind k 0 p.at p.text.now S refl (spot l) end c.in_ok-first.ensures in
     (subst (λ (qs : List Name). ReadTo k p.text.now S qs end) (sym c.one-labels.ensures) first, well.2, well.3)
 
 pub loop-at-preserved : goal.loop-at-preserved

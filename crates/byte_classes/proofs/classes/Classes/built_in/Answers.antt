@@ -1,10 +1,10 @@
 use Rattle.std.proofs.Common.{◌≡◌, ℕ, zero, suc, Bool, true, false, List, [], ◌∷◌, get_or, refl}
 use Rattle.std.proofs.lemmas.Bool.{false≢true}
-use Rattle.bytes.specs.declared.classes.Class.{Class}
-use Rattle.bytes.specs.declared.classes.Class.TheVariants.{Begins, Follows, Outside}
-use Rattle.bytes.specs.Bytes.{xml_class}
-use Rattle.bytes.proofs.Tables.{entry_passes}
-use Rattle.bytes.proofs.classes.Classes.built_in.Goals as goal
+use Rattle.byte_classes.specs.declared.classes.Class.{Class}
+use Rattle.byte_classes.specs.declared.classes.Class.TheVariants.{Begins, Follows, Outside}
+use Rattle.byte_classes.specs.Bytes.{xml_class}
+use Rattle.byte_classes.proofs.Tables.{entry_passes}
+use Rattle.byte_classes.proofs.classes.Classes.built_in.Goals as goal
 
 abbrev same : Class → Class → Bool
 same Begins Begins = true

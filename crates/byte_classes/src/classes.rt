@@ -1,6 +1,6 @@
 // What a byte may do in a name, and a class for each byte.
 ghost use Rattle.std.specs.Prelude.{◌≡◌, length, slice_index_or};
-ghost use Rattle.bytes.specs.declared.classes.Class.TheVariants.{Outside};
+ghost use Rattle.byte_classes.specs.declared.classes.Class.TheVariants.{Outside};
 
 pub mod table;
 

@@ -4,13 +4,13 @@
 --   begins k        a byte of class k may begin a name
 --   follows k       a byte of class k may stand in a name after its first byte
 --   xml_class b     what XML 1.0 says of the byte b, where NameStartChar and NameChar are cut to the bytes up to 127
---   FollowsXML c   c gives every byte the class that XML 1.0 gives it
+--   FollowsXML c    c gives every byte the class that XML 1.0 gives it
 --
 -- Assumes nothing.
 use Rattle.std.specs.Prelude.{◌≡◌, ℕ, ◌<◌, Bool, true, false, cond, ◌&&◌, ◌||◌, ◌==◌, nat_le, slice_index_or}
-use Rattle.bytes.specs.declared.classes.Class.{Class}
-use Rattle.bytes.specs.declared.classes.Class.TheVariants.{Begins, Follows, Outside}
-use Rattle.bytes.specs.declared.classes.Classes.{Classes}
+use Rattle.byte_classes.specs.declared.classes.Class.{Class}
+use Rattle.byte_classes.specs.declared.classes.Class.TheVariants.{Begins, Follows, Outside}
+use Rattle.byte_classes.specs.declared.classes.Classes.{Classes}
 
 abbrev pub class_of : Classes → ℕ → Class
 class_of c b = slice_index_or c.table b Outside

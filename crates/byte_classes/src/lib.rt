@@ -1,2 +1,4 @@
 // Which bytes may stand in a name.
+#![tactic(auto)]
+
 pub mod classes;

@@ -1,6 +1,6 @@
 // The classes that are built in, and the class of a byte.
 ghost use Rattle.std.specs.Prelude.{◌≡◌};
-ghost use Rattle.bytes.specs.Bytes.{class_of, FollowsXML};
+ghost use Rattle.byte_classes.specs.Bytes.{class_of, FollowsXML};
 
 use crate::classes::{Class, Classes};
 
