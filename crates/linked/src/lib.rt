@@ -1,5 +1,7 @@
 // The linked store: one row for each record, which names its parent. The rows rise by name, so a name is found by halving,
 // and their memory is reserved when the store is made.
+#![tactic(auto)]
+
 ghost use Rattle.std.specs.Prelude.{◌≡◌, ◌≤◌, true, vec_len, vec_capacity};
 ghost use Rattle.tree.specs.Records.{rises, labelled};
 ghost use Rattle.tree.specs.Trees.{nodes, IsTree};

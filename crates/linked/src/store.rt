@@ -1,5 +1,5 @@
 // The linked rows as a store: they are its records.
-ghost use Rattle.std.proofs.Common.{rules, arith};
+ghost use Rattle.std.proofs.Common.{rules};
 
 use crate::Linked;
 use tree::{Record, Refused, Store};
@@ -13,17 +13,17 @@ impl Store for Linked {
 
     ghost top = { 1024 };
 
-    ghost rising = { first_of (Prim.search rules, Prim.grind (arith, Self.row.coded.inj)) };
+    ghost rising = { Prim.search rules };
 
-    ghost tree = { first_of (Prim.search rules, Prim.grind (arith, Self.row.coded.inj)) };
+    ghost tree = { Prim.search rules };
 
-    ghost labels = { first_of (Prim.search rules, Prim.grind (arith, Self.row.coded.inj)) };
+    ghost labels = { Prim.search rules };
 
-    ghost within = { first_of (Prim.search rules, Prim.grind (arith, Self.row.coded.inj)) };
+    ghost within = { Prim.search rules };
 
-    ghost bounded = { first_of (Prim.search rules, Prim.grind (arith, Self.row.coded.inj)) };
+    ghost bounded = { Prim.search rules };
 
-    ghost small = { first_of (Prim.search rules, Prim.grind (arith, Self.row.coded.inj)) };
+    ghost small = { Prim.search rules };
 
     fn ceiling() -> usize {
         Self::LARGEST

@@ -14,7 +14,7 @@
 --     Found rows n o          o is the place of the row n, or none where no record has the name n
 --     Seated rows n p i d     i is the place and d the depth of a new row n below p: right behind p's row and one level down,
 --                             or first of all, where n and p are the root 0
---     SeatFor rows n p o     o is that seat, or none where p is not there and n is not the first root
+--     SeatFor rows n p o      o is that seat, or none where p is not there and n is not the first root
 use Rattle.std.specs.Prelude.{◌≡◌, ℕ, zero, suc, ◌+◌, ◌-◌, ◌<◌, Bool, true, false, cond, ◌&&◌, ◌||◌, List, [], ◌∷◌, length, get_or, Option, MatchOption, ◌==◌, nat_le, slice_index_or}
 use Rattle.tree.specs.declared.record.Record.{Record}
 use Rattle.tree.specs.Records.{has, sorted}

@@ -19,18 +19,18 @@ impl Store for Listing {
 
     ghost rising = { λ s. rises_sorted (listed s.rows.items) s.apart };
 
-    ghost tree = { first_of (Prim.search rules, Prim.grind (arith, Self.row.coded.inj)) };
+    ghost tree = { Prim.search rules };
 
-    ghost labels = { first_of (Prim.search rules, Prim.grind (arith, Self.row.coded.inj)) };
+    ghost labels = { Prim.search rules };
 
     ghost within = { λ s.
         let e = s.rows.ok.0 in
         let l = length_records_of s.rows.items in
         omega arith };
 
-    ghost bounded = { first_of (Prim.search rules, Prim.grind (arith, Self.row.coded.inj)) };
+    ghost bounded = { Prim.search rules };
 
-    ghost small = { first_of (Prim.search rules, Prim.grind (arith, Self.row.coded.inj)) };
+    ghost small = { Prim.search rules };
 
     fn ceiling() -> usize {
         Self::LARGEST

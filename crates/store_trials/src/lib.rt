@@ -1,4 +1,6 @@
 // Trials of the stores: their answers to one script, their limits, and single rules of the tree.
+#![tactic(auto)]
+
 #[cfg(test)]
 mod limits;
 #[cfg(test)]

@@ -94,6 +94,6 @@ fn both_answer_the_script(rt: HostRuntime) -> Result<(), Fail> {
     let mut listing = Listing::new(rt.alloc(), 8)?;
     let told = answers(rt.alloc(), &mut linked, &SCRIPT)?;
     assert_eq!(rt; answers(rt.alloc(), &mut listing, &SCRIPT)?, told.clone()?);
-    assert_eq!(rt; told, ANSWERS);
+    assert_eq!(rt; told.as_slice(), ANSWERS.as_slice());
     Ok(())
 }

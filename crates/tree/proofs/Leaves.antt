@@ -103,7 +103,7 @@ deepest rs f u t (x ∷ xs) sub h = go (cases_Bool (f x)) (cases_Bool (some_of f
 -- ── a leaf of the set ──
 pub leaf : (rs : List Record) (f : Record → Bool) → distinct rs ≡ true → IsTree (nodes rs) → some_of f rs ≡ true →
     ((r c : Record) → In r rs → In c rs → f r ≡ true → child_of r.name c ≡ true → f c ≡ true) → (r : Record) × In r rs × (f r ≡ true) × (is_parent r.name rs ≡ false)
-leaf rs f u t h down-closed = (w.it, w.member, w.passes, no_child (cases_Bool (is_parent w.it.name rs)))
+leaf rs f u t h down_closed = (w.it, w.member, w.passes, no_child (cases_Bool (is_parent w.it.name rs)))
   where
     w : Deepest rs f rs
     w = deepest rs f u t rs (λ x i. i) h
@@ -126,5 +126,5 @@ leaf rs f u t h down-closed = (w.it, w.member, w.passes, no_child (cases_Bool (i
         let par : c.parent ≡ w.it.name = eqb-true c.parent w.it.name p.1 in
         let nz : c.name ≢ 0 = λ z. ne (z ∙ sym (root_alone c k.1 z) ∙ par) in
         let dp : Depth (nodes rs) c.name (suc w.depth) = down (bare c) (map_to bare rs c k.1) nz (subst (λ (n : ℕ). Depth (nodes rs) n w.depth) (sym par) w.at) in
-        let le = w.most c (suc w.depth) k.1 (down-closed w.it c w.member k.1 w.passes k.2) dp in
+        let le = w.most c (suc w.depth) k.1 (down_closed w.it c w.member k.1 w.passes k.2) dp in
         absurd (omega arith)

@@ -5,7 +5,7 @@
 --     may_tag n rs                 the record n is there
 --     may_discard n rs             the record n is there, and no other record has it as its parent
 --     answer_of ok                 done, or refused
---     X-answer, X-after            for each X of place, tag and discard: what comes back, and the records at the return;
+--     X_answer, X_after            for each X of place, tag and discard: what comes back, and the records at the return;
 --                                  a refusal leaves them as they were
 use Rattle.std.specs.Prelude.{ℕ, Bool, true, false, cond, not, ◌&&◌, ◌||◌, List, length, Ok, Err, Result, ◌==◌}
 use Rattle.tree.specs.declared.record.Record.{Record}

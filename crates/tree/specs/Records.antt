@@ -15,7 +15,7 @@
 --     without n rs         rs without the record n
 --     sorted rs            the records of rs, put in rising order
 --     seat n rs            how many records stand in front of the first name that is not less than n
-use Rattle.std.specs.Prelude.{ℕ, suc, Bool, true, cond, not, ◌&&◌, ltb, List, [], ◌∷◌, is_some, Some, None, Option, ◌==◌, nat_lt}
+use Rattle.std.specs.Prelude.{ℕ, suc, Bool, true, cond, not, ◌&&◌, List, [], ◌∷◌, is_some, Some, None, Option, ◌==◌, nat_lt}
 use Rattle.tree.specs.declared.record.Record.{Record}
 use Rattle.tree.specs.Lists.{some_of, all_of}
 
@@ -49,7 +49,7 @@ abbrev pub is_parent : ℕ → List Record → Bool
 is_parent n rs = some_of (child_of n) rs
 
 abbrev pub labelled : List Record → Bool
-labelled rs = all_of (λ r. ltb 0 r.label) rs
+labelled rs = all_of (λ r. nat_lt 0 r.label) rs
 
 abbrev pub fresh : ℕ → ℕ → ℕ → Record
 fresh n p a = record { name = n; parent = p; label = a; mark = 0; note = 0 }

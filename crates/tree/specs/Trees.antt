@@ -2,7 +2,7 @@
 --     Node             a node: its name, its parent's name, its label
 --     node_of n p a    the node with these
 --     Depth ys n d     the parents lead from n to the root 0 in d steps
---     IsTree ys       no nodes; or a root 0 that is its own parent, and from each node the parents lead to it
+--     IsTree ys        no nodes; or a root 0 that is its own parent, and from each node the parents lead to it
 --     bare r           the node of the record r
 --     nodes rs         the nodes of the records
 --     live r           the record's node is not removed: its mark is 0

@@ -1,4 +1,6 @@
 // Trees of records, and what a store of them promises.
+#![tactic(auto)]
+
 pub mod name;
 pub mod record;
 pub mod store;

@@ -18,7 +18,7 @@ pub trait Store: Sized {
     // The limit: how many records it may hold.
     ghost most: { Self → ℕ };
 
-    // What `LARGEST` is; a clause cannot name the constant itself.
+    // What `LARGEST` is, for clauses.
     ghost top: { ℕ };
 
     fn ceiling() -> usize

@@ -3,9 +3,9 @@ use Rattle.tree.specs.declared.record.Record.{Record}
 use Rattle.tree.proofs.Kept.{Sound, sound_empty}
 use Rattle.linked.proofs.Linked.new.Goals as goal
 
-pub invariant-of-result : goal.invariant-of-result
-invariant-of-result c =
+pub invariant_of-result : goal.invariant_of-result
+invariant_of-result c =
     let limit = c.min-limit.result in
-    let m = c.in-ok-reserved.ensures in
+    let m = c.in_ok-reserved.ensures in
     let s = subst (λ (rs : List Record). Sound limit rs) (sym m.items) (sound_empty limit) in
-    (s.rising, (s.tree, (s.labels, (omega arith, (omega arith, (omega arith, tt))))))
+    record { rising = s.rising; tree = s.tree; labels = s.labels; within = omega arith; room = omega arith; small = omega arith }

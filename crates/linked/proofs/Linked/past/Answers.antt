@@ -5,8 +5,8 @@ use Rattle.tree.proofs.Seats.{seat_above}
 use Rattle.linked.proofs.Rows.{found_there, found_absent}
 use Rattle.linked.proofs.Linked.past.Goals as goal
 
-pub overflow-add-result : goal.overflow-add-result
-overflow-add-result c =
+pub overflow_add-result : goal.overflow_add-result
+overflow_add-result c =
     let s = c.args.self.now in
     let e = s.rows.ok.0 in
     let f = found_there c.args.name c.in-Ok.seat (vec_items s.rows) s.rising c.in-Ok.ensures.answer in

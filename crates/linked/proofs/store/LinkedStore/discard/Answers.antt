@@ -26,14 +26,14 @@ went_out c =
     let w = without_at_seat c.args.name rs s.rising f.0 in
     (grind arith, grind arith)
 
-pub invariant-of-self : goal.invariant-of-self
-invariant-of-self c =
+pub invariant_of-self : goal.invariant_of-self
+invariant_of-self c =
     let s = c.args.self.now in
     let rs = vec_items s.rows in
     let w = went_out c in
     let after : discard_after c.args.name rs ≡ vec_items c.remove.new.self = cond-true _ _ _ w.0 ∙ sym w.1 in
     let k = subst (λ (xs : List Record). Sound s.limit xs) after (discard_sound s.limit c.args.name rs (rows_sound s)) in
-    (k.rising, (k.tree, (k.labels, (omega arith, (omega arith, (s.small, tt))))))
+    record { rising = k.rising; tree = k.tree; labels = k.labels; within = omega arith; room = omega arith; small = s.small }
 
 pub returns : goal.returns
 returns c =

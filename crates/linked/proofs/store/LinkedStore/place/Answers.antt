@@ -29,8 +29,8 @@ went_in c =
     let p = placed_at_seat (fresh c.args.name c.args.parent c.args.label) rs in
     (grind (arith, nat_tests), grind arith)
 
-pub invariant-of-self : goal.invariant-of-self
-invariant-of-self c =
+pub invariant_of-self : goal.invariant_of-self
+invariant_of-self c =
     let s = c.args.self.now in
     let rs = vec_items s.rows in
     let w = went_in c in
@@ -39,7 +39,7 @@ invariant-of-self c =
     let few = k.within in
     let e = c.insert.new.self.ok.0 in
     let cap = c.insert.ensures.capacity in
-    (k.rising, (k.tree, (k.labels, (omega arith, (omega arith, (s.small, tt))))))
+    record { rising = k.rising; tree = k.tree; labels = k.labels; within = omega arith; room = omega arith; small = s.small }
 
 pub returns : goal.returns
 returns c =

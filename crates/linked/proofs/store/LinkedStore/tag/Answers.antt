@@ -17,8 +17,8 @@ index-row-requires c =
     let f = found_there c.args.name c.in-Ok.seat (vec_items s.rows) s.rising c.in-Ok.ensures.answer in
     omega arith
 
-pub index-mut-requires : goal.index-mut-requires
-index-mut-requires c =
+pub index_mut-requires : goal.index_mut-requires
+index_mut-requires c =
     let s = c.args.self.now in
     let e = s.rows.ok.0 in
     let f = found_there c.args.name c.in-Ok.seat (vec_items s.rows) s.rising c.in-Ok.ensures.answer in
@@ -35,12 +35,12 @@ tagged_there c =
     let t = tagged_at_seat c.args.name c.args.mark c.args.note rs x s.rising f.2 (grind (arith, nat_tests)) in
     (f.0, cond-true _ _ _ f.0 ∙ grind arith)
 
-pub invariant-of-self : goal.invariant-of-self
-invariant-of-self c =
+pub invariant_of-self : goal.invariant_of-self
+invariant_of-self c =
     let s = c.args.self.now in
-    let t = tagged_there (goal.at.invariant-of-self c).After-index-row in
+    let t = tagged_there (goal.at.invariant_of-self c).After-index-row in
     let k = subst (λ (xs : List Record). Sound s.limit xs) t.1 (tag_sound s.limit c.args.name c.args.mark c.args.note (vec_items s.rows) (rows_sound s)) in
-    (k.rising, (k.tree, (k.labels, (s.within, (s.room, (s.small, tt))))))
+    record { rising = k.rising; tree = k.tree; labels = k.labels; within = s.within; room = s.room; small = s.small }
 
 pub returns : goal.returns
 returns c =

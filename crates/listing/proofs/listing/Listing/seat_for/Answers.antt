@@ -5,8 +5,8 @@ use Rattle.listing.specs.RowsLemmas.{depth_bound, name_read}
 use Rattle.listing.proofs.listing.Listing.seat_for.Goals as goal
 
 -- a depth is less than the number of rows
-pub overflow-add-depth : goal.overflow-add-depth
-overflow-add-depth c =
+pub overflow_add-depth : goal.overflow_add-depth
+overflow_add-depth c =
     let s = c.args.self.now in
     let e = s.rows.ok.0 in
     let h = c.in-Some.ensures.answer.0 in

@@ -12,7 +12,7 @@ returns-in-Some c =
     let s = c.args.self.now in
     let f = c.in-Some.ensures.answer in
     let t = look_row (vec_items s.rows) c.in-Some.i c.args.name (new_row 0 0 0) (fresh 0 0 0) f.0 (f.1 (new_row 0 0 0)) s.apart in
-    record { answer = ap (λ (r : Record). Some r) (c.record-at.ensures.answer (fresh 0 0 0)) ∙ sym t }
+    record { answer = ap (λ (r : Record). Some r) (c.record_at.ensures.answer (fresh 0 0 0)) ∙ sym t }
 
 pub returns-in-None : goal.returns-in-None
 returns-in-None c =

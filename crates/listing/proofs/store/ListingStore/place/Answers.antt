@@ -9,7 +9,7 @@ use Rattle.listing.specs.RowsLemmas.{length_records}
 use Rattle.listing.specs.Asked.{found_has, may_place_listed}
 use Rattle.listing.proofs.Kept.{well, seat_within, may_placed, records_placed, well_placed}
 use Rattle.listing.proofs.store.ListingStore.place.Goals as goal
-use Rattle.listing.proofs.store.ListingStore.place.Goals.{After-insert, then-label-eq0-via-then-label-eq0, then-label-eq0-via-else-label-eq0+then-len-self, then-label-eq0-via-else-label-eq0+else-len-self+then-is-some}
+use Rattle.listing.proofs.store.ListingStore.place.Goals.{After-insert, then-label-eq0-via-then-label-eq0, then-label-eq0-via-else-label-eq0+then-len-self, then-label-eq0-via-else-label-eq0+else-len-self+then-is_some}
 
 pub returns-then-label-eq0 : goal.returns-then-label-eq0
 returns-then-label-eq0 c =
@@ -22,17 +22,17 @@ returns-then-label-eq0 c =
     elim c.then-label-eq0.branch [
       | then-label-eq0-via-then-label-eq0 w ↦ grind (arith, nat_tests)
       | then-label-eq0-via-else-label-eq0+then-len-self w ↦ grind (arith, nat_tests)
-      | then-label-eq0-via-else-label-eq0+else-len-self+then-is-some w ↦
+      | then-label-eq0-via-else-label-eq0+else-len-self+then-is_some w ↦
           (let h = found_has rows c.args.name w.find.result w.find.ensures.answer in grind (arith, nat_tests))
     ] in
     record { answer = sym (ap answer_of f); after = sym (cond-false _ _ _ f); same = refl }
 
-pub returns-in-default : goal.returns-in-default
-returns-in-default c =
+pub returns-in_default : goal.returns-in_default
+returns-in_default c =
     let s = c.args.self.now in
     let rows = vec_items s.rows in
     let m = may_place_listed s.limit c.args.name c.args.parent c.args.label rows in
-    let g = c.in-default.ensures.answer in
+    let g = c.in_default.ensures.answer in
     let f : may_place s.limit c.args.name c.args.parent c.args.label (records_of rows) ≡ false = m ∙ grind (arith, nat_tests) in
     record { answer = sym (ap answer_of f); after = sym (cond-false _ _ _ f); same = refl }
 
@@ -56,18 +56,18 @@ put c =
     let e = s.rows.ok.0 in
     let ok : is_ok c.insert.result ≡ true = c.insert.ensures.succeeds (omega arith) in
     let h = found_has (vec_items s.rows) c.args.name c.find.result c.find.ensures.answer in
-    let f = c.if-is-some.ensures in
+    let f = c.if-is_some.ensures in
     record { new = cc; label = c.if-label-eq0.false; room = omega arith; items = grind arith }
 
-pub invariant-of-self : goal.invariant-of-self
-invariant-of-self c =
+pub invariant_of-self : goal.invariant_of-self
+invariant_of-self c =
     let s = c.args.self.now in
     let e = s.rows.ok.0 in
     let k = put c in
     let full = k.room in
     let w = well_placed s.limit c.args.name c.args.parent c.args.label (vec_items s.rows) (vec_items c.insert.new.self) (well s) k.new k.label k.room c.in-Some.ensures.answer k.items in
     let cap = c.insert.ensures.capacity in
-    (w.nests, (w.roots, (w.apart, (w.sound.tree, (w.sound.labels, (grind arith, (omega arith, (s.small, tt))))))))
+    record { nests = w.nests; roots = w.roots; apart = w.apart; tree = w.sound.tree; labels = w.sound.labels; within = grind arith; room = omega arith; small = s.small }
 
 pub returns : goal.returns
 returns c =

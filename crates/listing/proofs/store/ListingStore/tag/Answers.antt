@@ -8,19 +8,19 @@ use Rattle.listing.specs.Asked.{has_row}
 use Rattle.listing.proofs.Kept.{well, records_tagged, well_tagged}
 use Rattle.listing.proofs.store.ListingStore.tag.Goals as goal
 
-pub returns-in-default : goal.returns-in-default
-returns-in-default c =
+pub returns-in_default : goal.returns-in_default
+returns-in_default c =
     let rows = vec_items c.args.self.now.rows in
-    let f : has c.args.name (records_of rows) ≡ false = has_sorted c.args.name (listed rows) ∙ c.in-default.ensures.answer in
+    let f : has c.args.name (records_of rows) ≡ false = has_sorted c.args.name (listed rows) ∙ c.in_default.ensures.answer in
     record { answer = sym (ap answer_of f); after = sym (cond-false _ _ _ f); same = refl }
 
-pub invariant-of-self : goal.invariant-of-self
-invariant-of-self c =
+pub invariant_of-self : goal.invariant_of-self
+invariant_of-self c =
     let s = c.args.self.now in
     let f = c.in-Some.ensures.answer in
     let r = c.index-row.result.now in
     let w = well_tagged s.limit c.args.name c.args.mark c.args.note c.in-Some.i (vec_items s.rows) r (well s) f.0 c.index-row.ensures (f.1 r) in
-    (w.nests, (w.roots, (w.apart, (w.sound.tree, (w.sound.labels, (s.within, (s.room, (s.small, tt))))))))
+    record { nests = w.nests; roots = w.roots; apart = w.apart; tree = w.sound.tree; labels = w.sound.labels; within = s.within; room = s.room; small = s.small }
 
 pub returns : goal.returns
 returns c =
