@@ -51,7 +51,7 @@ tags_length : (u k : ℕ) → length (tags u k) ≡ k
 tags_length u zero = refl
 tags_length u (suc k) = ap suc (tags_length u k)
 
-module _ (g : Ground) (gf : g.fits ≡ fits) (ga : g.fits-any ≡ fits_any) (h : Log) (m : Model) (nx : ℕ) (ti : Tied g h m nx) where
+module _ (g : Ground) (gf : g.fits ≡ fits) (ga : g.fits_any ≡ fits_any) (h : Log) (m : Model) (nx : ℕ) (ti : Tied g h m nx) where
   abbrev S : State CodedPath
   S = st h m
 
@@ -149,13 +149,13 @@ module _ (g : Ground) (gf : g.fits ≡ fits) (ga : g.fits-any ≡ fits_any) (h :
           → ((i : ℕ) → m.tickets i ≢ 0 → added i ≡ count (m.tickets i) (S'.block (m.tickets i)))
           → ((i : ℕ) → m.tickets i ≢ 0 → (j : ℕ) → 1 ≤ j → j ≤ added i → (d : Event CodedPath) × In d (S'.block (m.tickets i)) × Makes d (m.tickets i * 65536 + j))
           → Booked hist' m'.locks p e → length rs ≤ m.limit → Told (b, a) → Tied g h' m' nx
-      acted books counts nums new-booked fits-room new_told = record {
+      acted books counts nums new_booked fits_room new_told = record {
         reach = act ti.reach e (mix h' m' nx) tk;
         books = books;
         seats = record {
-          place_one = sts.place-one;
-          place_low = sts.place-low;
-          first_low = sts.first-low;
+          place_one = sts.place_one;
+          place_low = sts.place_low;
+          first_low = sts.first_low;
           added_count = counts;
           numbers = nums;
           held = λ k i. held k (in_append k m.locks (map (λ l. record { holder = p; lock = l }) (locks_of m.records b)) i);
@@ -165,11 +165,11 @@ module _ (g : Ground) (gf : g.fits ≡ fits) (ga : g.fits-any ≡ fits_any) (h :
         fit = ti.fit;
         next = ti.next;
         base = ti.base;
-        room = (fits-room, ti.room.1);
+        room = (fits_room, ti.room.1);
         told = λ u x i. told u x i (ℕ_discrete u (actor b));
-        told_past = ti.told-past;
+        told_past = ti.told_past;
         new = λ t le. block_other room b a h t (λ q. (let lo = (reach_numbered g ti.reach).low (actor b) (not_0, p, at_seat) in omega arith)) ∙ ti.new t le;
-        past_low = ti.past-low;
+        past_low = ti.past_low;
       }
         where
           held : (k : Held) → In k m.locks ⊎ In k (map (λ l. record { holder = p; lock = l }) (locks_of m.records b)) → m.tickets k.holder ≢ 0
@@ -179,10 +179,10 @@ module _ (g : Ground) (gf : g.fits ≡ fits) (ga : g.fits-any ≡ fits_any) (h :
 
           booked : (i : ℕ) → m.tickets i ≢ 0 → (d : Event CodedPath) → In d (S.block (m.tickets i)) ⊎ ((d ≡ e) × (m.tickets i ≡ actor b)) → Booked hist' m'.locks i d
           booked i i0 d (inl j) = booked_more i d (map (λ l. record { holder = p; lock = l }) (locks_of m.records b)) (sts.booked i i0 d j)
-          booked i i0 d (inr q) = subst (λ c. Booked hist' m'.locks i c) (sym q.0) (subst (λ v. Booked hist' m'.locks v e) (sym (sts.place-one i p (q.1 ∙ sym at_seat) i0)) new-booked)
+          booked i i0 d (inr q) = subst (λ c. Booked hist' m'.locks i c) (sym q.0) (subst (λ v. Booked hist' m'.locks v e) (sym (sts.place_one i p (q.1 ∙ sym at_seat) i0)) new_booked)
 
           ends : (i j : ℕ) → (m.arrows i j ≡ true) ⊎ ((eqb j p && rivals m p (locks_of m.records b) i) ≡ true) → (m.tickets i ≢ 0) × (m.tickets j ≢ 0)
-          ends i j (inl x) = sts.arrow-ends i j x
+          ends i j (inl x) = sts.arrow_ends i j x
           ends i j (inr x) =
               let q = and_parts (eqb j p) (rivals m p (locks_of m.records b) i) x in
               ((rival_open g gf ga h m nx ti p (locks_of m.records b) i q.1).0, λ z. not_0 (sym at_seat ∙ ap m.tickets (sym (eqb-true j p q.0)) ∙ z))

@@ -27,7 +27,7 @@ use Rattle.model.proofs.Turn.{names_nodes, nodes_up, node_known, turn}
 use Rattle.model.proofs.Replays.{history, history_act, history_new, fresh_name}
 use Rattle.model.proofs.Acted.{place_nodes, added_room, own_in, block_sub, block_plus, rec_more, rec_less, acted}
 
-module _ (g : Ground) (gf : g.fits ≡ fits) (ga : g.fits-any ≡ fits_any) (h : Log) (m : Model) (nx : ℕ) (ti : Tied g h m nx) where
+module _ (g : Ground) (gf : g.fits ≡ fits) (ga : g.fits_any ≡ fits_any) (h : Log) (m : Model) (nx : ℕ) (ti : Tied g h m nx) where
   abbrev S : State CodedPath
   S = st h m
 
@@ -75,10 +75,10 @@ module _ (g : Ground) (gf : g.fits ≡ fits) (ga : g.fits-any ≡ fits_any) (h :
     known2 = node_known g gf ga h m nx ti t n st_t2 t2≢0 ok.1.1.0 ok.1.1.1.0
 
     counted : m.added i2 ≡ count t (S.block t)
-    counted = sts.added-count i2 i2≢0 ∙ ap (λ u. count u (S.block u)) st_t2
+    counted = sts.added_count i2 i2≢0 ∙ ap (λ u. count u (S.block u)) st_t2
 
     based : g.base ≤ t
-    based = subst (λ u. g.base ≤ u) st_t2 (sts.first-low i2 i2≢0)
+    based = subst (λ u. g.base ≤ u) st_t2 (sts.first_low i2 i2≢0)
 
     small : suc (count t (S.block t)) < 65536
     small =
@@ -139,7 +139,7 @@ module _ (g : Ground) (gf : g.fits ≡ fits) (ga : g.fits-any ≡ fits_any) (h :
         | inl p ↦ history_new g ti.reach (add t n c x) (mix h2 m2 nx) add_turn y p
         | inr j ↦ old_hist y (bk.listed y j)
       ];
-      gone_listed = λ d i z k. let q = bk.gone-listed d i z k in (q.0, old_hist q.0 q.1, q.2);
+      gone_listed = λ d i z k. let q = bk.gone_listed d i z k in (q.0, old_hist q.0 q.1, q.2);
       mark_of = λ r i u d o j k. mark_of r (in_placed nr R r i) u d o (plus2 u d j) k;
       mark_by = λ r i nz. mark_by r (in_placed nr R r i) nz;
       note_known = λ r i j noted z. known r (in_placed nr R r i) j noted z;
@@ -149,7 +149,7 @@ module _ (g : Ground) (gf : g.fits ≡ fits) (ga : g.fits-any ≡ fits_any) (h :
         from : (r : Record) → (r ≡ nr) ⊎ In r R → Recorded g (All (st h2 m2)) (bare r) × ¬ ((d : Event CodedPath) × In d (events (past h)) × Takes d r.name)
         from r (inl p) = (
           inr (add t n c x, inr (t, (t2≢0, i2, st_t2), own2), ap bare p),
-          λ w. let q = bk.gone-listed w.0 w.1 r.name w.2 in fresh q.0 q.1 (q.2 ∙ ap (λ (v : Record). v.name) p),
+          λ w. let q = bk.gone_listed w.0 w.1 r.name w.2 in fresh q.0 q.1 (q.2 ∙ ap (λ (v : Record). v.name) p),
         )
         from r (inr i) = let k = bk.from r i in (rec_more g gf ga h m nx ti room (adds t n c) (made x) rs2 added2 refl ok.1.0 (bare r) k.0, k.1)
 
@@ -163,16 +163,16 @@ module _ (g : Ground) (gf : g.fits ≡ fits) (ga : g.fits-any ≡ fits_any) (h :
 
         mark_by : (r : Record) → (r ≡ nr) ⊎ In r R → r.mark ≢ 0 → S.Open r.mark × (d : Event CodedPath) × In d (events (block r.mark h2)) × Takes d r.name
         mark_by r (inl p) nz = absurd (nz (ap (λ (v : Record). v.mark) p))
-        mark_by r (inr i) nz = let k = bk.mark-by r i nz in (k.0, k.1, sub2 r.mark k.1 k.2, k.3)
+        mark_by r (inr i) nz = let k = bk.mark_by r i nz in (k.0, k.1, sub2 r.mark k.1 k.2, k.3)
 
         known : (r : Record) → (r ≡ nr) ⊎ In r R → (j : ℕ) → bit r.note j ≡ true → m.tickets j ≢ 0 → (d : Event CodedPath) × In d (events (block (m.tickets j) h2)) × (Makes d r.name ⊎ Shows d r.name)
-        known r (inr i) j noted z = let k = bk.note-known r i j noted z in (k.0, sub2 (m.tickets j) k.0 k.1, k.2)
+        known r (inr i) j noted z = let k = bk.note_known r i j noted z in (k.0, sub2 (m.tickets j) k.0 k.1, k.2)
         known r (inl p) j noted z =
             let at : i2 ≡ j = sym (eqb-true j i2 (sym (bit_one i2 j) ∙ ap (λ (v : Record). bit v.note j) (sym p) ∙ noted)) in
             (add t n c x, subst (λ v. In (add t n c x) (events (block v h2))) (sym st_t2 ∙ ap m.tickets at) own2, inl (ap (λ (v : Record). v.name) p))
 
         free : (r : Record) → (r ≡ nr) ⊎ In r R → (j : ℕ) → j < 32 → m.tickets j ≡ 0 → bit r.note j ≡ false
-        free r (inr i) j lt z = bk.note-free r i j lt z
+        free r (inr i) j lt z = bk.note_free r i j lt z
         free r (inl p) j lt z = ap (λ (v : Record). bit v.note j) p ∙ bit_one i2 j ∙ ne_eqb j i2 (λ e. i2≢0 (ap m.tickets (sym e) ∙ z))
 
     pub grown : Tied g h2 m2 nx
@@ -197,8 +197,8 @@ module _ (g : Ground) (gf : g.fits ≡ fits) (ga : g.fits-any ≡ fits_any) (h :
             let four : suc (m.added i2) ≡ count t (events (block t h2)) = omega arith in
             at2 i e ∙ subst (λ u. suc (m.added i2) ≡ count u (events (block u h2))) (sym (ap m.tickets e ∙ st_t2)) four
         counts i i≢0 (no ne) =
-            let nt : m.tickets i ≢ t = λ z. ne (sts.place-one i i2 (z ∙ sym st_t2) i≢0) in
-            off2 i ne ∙ sts.added-count i i≢0 ∙ sym (ap (λ ys. count (m.tickets i) (events ys)) (block_other room (adds t n c) (made x) h (m.tickets i) nt))
+            let nt : m.tickets i ≢ t = λ z. ne (sts.place_one i i2 (z ∙ sym st_t2) i≢0) in
+            off2 i ne ∙ sts.added_count i i≢0 ∙ sym (ap (λ ys. count (m.tickets i) (events ys)) (block_other room (adds t n c) (made x) h (m.tickets i) nt))
 
         nums : (i : ℕ) → m.tickets i ≢ 0 → (j : ℕ) → 1 ≤ j → j ≤ added2 i → Dec (i ≡ i2) → (d : Event CodedPath) × In d (events (block (m.tickets i) h2)) × Makes d (m.tickets i * 65536 + j)
         nums i i≢0 j lo hi (no ne) = let k = sts.numbers i i≢0 j lo (subst (λ v. j ≤ v) (off2 i ne) hi) in (k.0, sub2 (m.tickets i) k.0 k.1, k.2)

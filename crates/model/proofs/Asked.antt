@@ -30,7 +30,7 @@ use Rattle.model.proofs.Retagged.{same_books, same_count}
 learned : (p w i : ℕ) → bit (bit_or (2 ^ p) w) i ≡ (eqb i p || bit w i)
 learned p w i = bit-or (2 ^ p) w i ∙ ap (λ b. b || bit w i) (bit_one p i)
 
-module _ (g : Ground) (gf : g.fits ≡ fits) (ga : g.fits-any ≡ fits_any) (h : Log) (m : Model) (nx : ℕ) (ti : Tied g h m nx) where
+module _ (g : Ground) (gf : g.fits ≡ fits) (ga : g.fits_any ≡ fits_any) (h : Log) (m : Model) (nx : ℕ) (ti : Tied g h m nx) where
   abbrev S : State CodedPath
   S = st h m
 
@@ -96,11 +96,11 @@ module _ (g : Ground) (gf : g.fits ≡ fits) (ga : g.fits-any ≡ fits_any) (h :
     asked = acted g gf ga h m nx ti room b a (map f R) m.added refl ok.1.0 ask_turn
         (same_books g gf ga h m nx ti room b a f m.added refl ok.1.0 ask_turn f_bare (λ y ad. ad)
         (λ r i u d o j tk. f_mark r ∙ elim (plus u d j) [ inl k ↦ bk.mark_of r i u d o k tk | inr z ↦ absurd (subst (λ c. Takes c r.name) z.0 tk) ])
-        (λ r i nz. let k = bk.mark-by r i (λ z. nz (f_mark r ∙ z)) in let s = sym (f_mark r) in
+        (λ r i nz. let k = bk.mark_by r i (λ z. nz (f_mark r ∙ z)) in let s = sym (f_mark r) in
         (subst S.Open s k.0, k.1, sub (f r).mark k.1 (subst (λ v. In k.1 (S.block v)) s k.2), k.3))
         (λ r i j noted z. note r i j z (f_note r j noted))
         (λ r i j lt z. free r i j lt z (cases_Bool (bit (f r).note j))))
-        (λ i i≢0. sts.added-count i i≢0 ∙ same_count g gf ga h m nx ti room b a f m.added refl ok.1.0 ask_turn f_bare (λ y ad. ad) (λ u. refl) (m.tickets i))
+        (λ i i≢0. sts.added_count i i≢0 ∙ same_count g gf ga h m nx ti room b a f m.added refl ok.1.0 ask_turn f_bare (λ y ad. ad) (λ u. refl) (m.tickets i))
         (λ i i≢0 j lo hi. let k = sts.numbers i i≢0 j lo hi in (k.0, sub (m.tickets i) k.0 k.1, k.2))
         (in_right (record { holder = i0; lock = read n q }) m.locks (record { holder = i0; lock = read n q } ∷ []) (inl refl))
         (let e = map_length f R in let le = ti.room.0 in omega arith)
@@ -119,9 +119,9 @@ module _ (g : Ground) (gf : g.fits ≡ fits) (ga : g.fits-any ≡ fits_any) (h :
         plus = block_plus g gf ga h m nx ti room b a (map f R) m.added refl ok.1.0
 
         note : (r : Record) → In r R → (j : ℕ) → m.tickets j ≢ 0 → (bit r.note j ≡ true) ⊎ ((j ≡ i0) × In r.name xs) → (d : Event CodedPath) × In d (events (block (m.tickets j) ((acts room b, a) ∷ h))) × (Makes d r.name ⊎ Shows d r.name)
-        note r i j z (inl noted) = let k = bk.note-known r i j noted z in (k.0, sub (m.tickets j) k.0 k.1, k.2)
+        note r i j z (inl noted) = let k = bk.note_known r i j noted z in (k.0, sub (m.tickets j) k.0 k.1, k.2)
         note r i j z (inr w) = (ask t n q xs, subst (λ v. In (ask t n q xs) (events (block v ((acts room b, a) ∷ h)))) (sym st_t ∙ ap m.tickets (sym w.0)) (own_in g gf ga h m nx ti room b a (map f R) m.added refl ok.1.0), inr w.1)
 
         free : (r : Record) → In r R → (j : ℕ) → j < 32 → m.tickets j ≡ 0 → (bit (f r).note j ≡ true) ⊎ (bit (f r).note j ≡ false) → bit (f r).note j ≡ false
         free r i j lt z (inr e) = e
-        free r i j lt z (inl e) = elim (f_note r j e) [ inl noted ↦ absurd (both_ways (bit r.note j) (bk.note-free r i j lt z) noted) | inr w ↦ absurd (t≢0 (sym st_t ∙ ap m.tickets (sym w.0) ∙ z)) ]
+        free r i j lt z (inl e) = elim (f_note r j e) [ inl noted ↦ absurd (both_ways (bit r.note j) (bk.note_free r i j lt z) noted) | inr w ↦ absurd (t≢0 (sym st_t ∙ ap m.tickets (sym w.0) ∙ z)) ]

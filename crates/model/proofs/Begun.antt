@@ -35,16 +35,16 @@ use Rattle.model.proofs.Decided.{kept_tree}
 module _ (g : Ground) where
   -- a call that changes nothing
   pub unmoved : (c : Call) (k : ℕ) (h : Log) (m : Model) (nx : ℕ) → Tied g h m nx → Tied g ((c, refused k) ∷ h) m nx
-  unmoved opens k h m nx ti = record { reach = ti.reach; books = ti.books; seats = ti.seats; fit = ti.fit; next = ti.next; base = ti.base; room = ti.room; told = ti.told; told_past = ti.told-past; new = ti.new; past_low = ti.past-low }
-  unmoved (acts room b) k h m nx ti = record { reach = ti.reach; books = ti.books; seats = ti.seats; fit = ti.fit; next = ti.next; base = ti.base; room = ti.room; told = ti.told; told_past = ti.told-past; new = ti.new; past_low = ti.past-low }
-  unmoved (finishes t) k h m nx ti = record { reach = ti.reach; books = ti.books; seats = ti.seats; fit = ti.fit; next = ti.next; base = ti.base; room = ti.room; told = ti.told; told_past = ti.told-past; new = ti.new; past_low = ti.past-low }
-  unmoved (withdraws room t) k h m nx ti = record { reach = ti.reach; books = ti.books; seats = ti.seats; fit = ti.fit; next = ti.next; base = ti.base; room = ti.room; told = ti.told; told_past = ti.told-past; new = ti.new; past_low = ti.past-low }
-  unmoved (orders room) k h m nx ti = record { reach = ti.reach; books = ti.books; seats = ti.seats; fit = ti.fit; next = ti.next; base = ti.base; room = ti.room; told = ti.told; told_past = ti.told-past; new = ti.new; past_low = ti.past-low }
+  unmoved opens k h m nx ti = record { reach = ti.reach; books = ti.books; seats = ti.seats; fit = ti.fit; next = ti.next; base = ti.base; room = ti.room; told = ti.told; told_past = ti.told_past; new = ti.new; past_low = ti.past_low }
+  unmoved (acts room b) k h m nx ti = record { reach = ti.reach; books = ti.books; seats = ti.seats; fit = ti.fit; next = ti.next; base = ti.base; room = ti.room; told = ti.told; told_past = ti.told_past; new = ti.new; past_low = ti.past_low }
+  unmoved (finishes t) k h m nx ti = record { reach = ti.reach; books = ti.books; seats = ti.seats; fit = ti.fit; next = ti.next; base = ti.base; room = ti.room; told = ti.told; told_past = ti.told_past; new = ti.new; past_low = ti.past_low }
+  unmoved (withdraws room t) k h m nx ti = record { reach = ti.reach; books = ti.books; seats = ti.seats; fit = ti.fit; next = ti.next; base = ti.base; room = ti.room; told = ti.told; told_past = ti.told_past; new = ti.new; past_low = ti.past_low }
+  unmoved (orders room) k h m nx ti = record { reach = ti.reach; books = ti.books; seats = ti.seats; fit = ti.fit; next = ti.next; base = ti.base; room = ti.room; told = ti.told; told_past = ti.told_past; new = ti.new; past_low = ti.past_low }
 
   written : (room : ℕ) (ts : List ℕ) (h : Log) (m : Model) (nx : ℕ) → Tied g h m nx → Tied g ((orders room, ordered ts) ∷ h) m nx
-  written room ts h m nx ti = record { reach = ti.reach; books = ti.books; seats = ti.seats; fit = ti.fit; next = ti.next; base = ti.base; room = ti.room; told = ti.told; told_past = ti.told-past; new = ti.new; past_low = ti.past-low }
+  written room ts h m nx ti = record { reach = ti.reach; books = ti.books; seats = ti.seats; fit = ti.fit; next = ti.next; base = ti.base; room = ti.room; told = ti.told; told_past = ti.told_past; new = ti.new; past_low = ti.past_low }
 
-  module _ (gf : g.fits ≡ fits) (ga : g.fits-any ≡ fits_any) (h : Log) (m : Model) (nx : ℕ) (ti : Tied g h m nx) where
+  module _ (gf : g.fits ≡ fits) (ga : g.fits_any ≡ fits_any) (h : Log) (m : Model) (nx : ℕ) (ti : Tied g h m nx) where
     abbrev Goes : Call → Model × Answer → Type 1
     Goes c x = (ny : ℕ) × Tied g ((c, x.1) ∷ h) x.0 ny
 

@@ -30,7 +30,7 @@ use Rattle.model.proofs.Reached.{place_to}
 pub forgets_note : (ps : List ℕ) (r : Record) (i : ℕ) → bit (forgets ps r).note i ≡ (ltb i 32 && (bit r.note i && not (member i ps)))
 forgets_note ps r i = bit_word (λ k. bit r.note k && not (member k ps)) i
 
-module _ (g : Ground) (gf : g.fits ≡ fits) (ga : g.fits-any ≡ fits_any) (h : Log) (m : Model) (nx : ℕ) (ti : Tied g h m nx) where
+module _ (g : Ground) (gf : g.fits ≡ fits) (ga : g.fits_any ≡ fits_any) (h : Log) (m : Model) (nx : ℕ) (ti : Tied g h m nx) where
   abbrev S : State CodedPath
   S = st h m
 
@@ -85,7 +85,7 @@ module _ (g : Ground) (gf : g.fits ≡ fits) (ga : g.fits-any ≡ fits_any) (h :
     pub open_still : (u i : ℕ) → u ≢ 0 → m.tickets i ≡ u → ¬ (In i ps) → (u ≢ 0) × (j : ℕ) × (m'.tickets j ≡ u)
     open_still u i u0 e out = (u0, i, (kept_on i out).0 ∙ e)
 
-    module _ (h' : Log) (same : (u : ℕ) → block u h' ≡ block u h) (hist' : List Node) (wider-hist : (y : Node) → In y (history g ti.reach) → In y hist') where
+    module _ (h' : Log) (same : (u : ℕ) → block u h' ≡ block u h) (hist' : List Node) (wider_hist : (y : Node) → In y (history g ti.reach) → In y hist') where
       keeps_lock : (q : Held) → In q m.locks → ¬ (In q.holder ps) → In q m'.locks
       keeps_lock q i out = keep_to (λ (v : Held). not (member v.holder ps)) m.locks q i (go (cases_Bool (member q.holder ps)))
         where
@@ -98,7 +98,7 @@ module _ (g : Ground) (gf : g.fits ≡ fits) (ga : g.fits-any ≡ fits_any) (h :
       booked_kept i (add t n c x) out bo = keeps_lock (record { holder = i; lock = write n (Some c) }) bo out
       booked_kept i (rem t n) out bo =
           let z = bo.1 in
-          (keeps_lock (record { holder = i; lock = write n None }) bo.0 out, (z.0, wider-hist z.0 z.1, z.2, keeps_lock (record { holder = i; lock = write z.0.parent (Some z.0.label) }) z.3 out))
+          (keeps_lock (record { holder = i; lock = write n None }) bo.0 out, (z.0, wider_hist z.0 z.1, z.2, keeps_lock (record { holder = i; lock = write z.0.parent (Some z.0.label) }) z.3 out))
 
       in_same : (u : ℕ) (d : Event CodedPath) → In d (events (block u h)) → In d (events (block u h'))
       in_same u d i = subst (λ xs. In d (events xs)) (sym (same u)) i
@@ -108,10 +108,10 @@ module _ (g : Ground) (gf : g.fits ≡ fits) (ga : g.fits-any ≡ fits_any) (h :
 
       pub freed_seats : Seats g (st h' m') hist' m'
       freed_seats = record {
-        place_one = λ i j e nz. let q = freed_off i nz in let r = freed_off j (λ z. nz (e ∙ z)) in sts.place-one i j (sym q.1 ∙ e ∙ r.1) q.2;
-        place_low = λ i nz. sts.place-low i (freed_off i nz).2;
-        first_low = λ i nz. let q = freed_off i nz in subst (λ v. g.base ≤ v) (sym q.1) (sts.first-low i q.2);
-        added_count = λ i nz. let q = freed_off i nz in (kept_on i q.0).1 ∙ sts.added-count i q.2 ∙ ap (λ u. count u (S.block u)) (sym q.1) ∙ ap (λ xs. count (m'.tickets i) (events xs)) (sym (same (m'.tickets i)));
+        place_one = λ i j e nz. let q = freed_off i nz in let r = freed_off j (λ z. nz (e ∙ z)) in sts.place_one i j (sym q.1 ∙ e ∙ r.1) q.2;
+        place_low = λ i nz. sts.place_low i (freed_off i nz).2;
+        first_low = λ i nz. let q = freed_off i nz in subst (λ v. g.base ≤ v) (sym q.1) (sts.first_low i q.2);
+        added_count = λ i nz. let q = freed_off i nz in (kept_on i q.0).1 ∙ sts.added_count i q.2 ∙ ap (λ u. count u (S.block u)) (sym q.1) ∙ ap (λ xs. count (m'.tickets i) (events xs)) (sym (same (m'.tickets i)));
         numbers = λ i nz j lo hi. let q = freed_off i nz in
             let r = sts.numbers i q.2 j lo (subst (λ v. j ≤ v) (kept_on i q.0).1 hi) in
             (r.0, in_same (m'.tickets i) r.0 (subst (λ u. In r.0 (S.block u)) (sym q.1) r.1), subst (λ u. Makes r.0 (u * 65536 + j)) (sym q.1) r.2);
@@ -119,12 +119,12 @@ module _ (g : Ground) (gf : g.fits ≡ fits) (ga : g.fits-any ≡ fits_any) (h :
             let out = not_member v.holder ps (not-true (member v.holder ps) q.1) in
             λ z. sts.held v q.0 (sym (kept_on v.holder out).0 ∙ z);
         booked = λ i nz d j. let q = freed_off i nz in booked_kept i d q.0 (sts.booked i q.2 d (subst (λ u. In d (S.block u)) q.1 (in_was (m'.tickets i) d j)));
-        arrow_ends = λ i j x. let q = freed_arrow i j x in let r = sts.arrow-ends i j q.0 in
+        arrow_ends = λ i j x. let q = freed_arrow i j x in let r = sts.arrow_ends i j q.0 in
             (λ z. r.0 (sym (kept_on i q.1).0 ∙ z), λ z. r.1 (sym (kept_on j q.2).0 ∙ z));
       }
 
   -- ── finish ──
-  module _ (t : ℕ) (op : not_open m t ≡ false) (no-in : arrow_into m.arrows (place_of m t) ≡ false) where
+  module _ (t : ℕ) (op : not_open m t ≡ false) (no_in : arrow_into m.arrows (place_of m t) ≡ false) where
     abbrev p : ℕ
     p = place_of m t
 
@@ -158,8 +158,8 @@ module _ (g : Ground) (gf : g.fits ≡ fits) (ga : g.fits-any ≡ fits_any) (h :
 
     no_arrow : (i : ℕ) → m.arrows i p ≡ true → ⊥
     no_arrow i x =
-        let none_in : some_of (λ j. m.arrows j p) places ≡ false = no-in in
-        both_ways (m.arrows i p) (some_false (λ j. m.arrows j p) places none_in i (place_to i (sts.place-low i (sts.arrow-ends i p x).0))) x
+        let none_in : some_of (λ j. m.arrows j p) places ≡ false = no_in in
+        both_ways (m.arrows i p) (some_false (λ j. m.arrows j p) places none_in i (place_to i (sts.place_low i (sts.arrow_ends i p x).0))) x
 
     fin_is : events (past hf) ≡ events (block t h) ++ events (past h)
     fin_is = map_append event (block t h) (past h)
@@ -167,18 +167,18 @@ module _ (g : Ground) (gf : g.fits ≡ fits) (ga : g.fits-any ≡ fits_any) (h :
     fins : Finishes S t Sf
     fins = record {
       opened = (t≢0, p, seat_t);
-      free = λ u x. no_arrow x.0 (subst (λ j. m.arrows x.0 j ≡ true) (sts.place-one x.1 p (x.3 ∙ sym seat_t) (λ z. t≢0 (sym x.3 ∙ z))) x.4);
+      free = λ u x. no_arrow x.0 (subst (λ j. m.arrows x.0 j ≡ true) (sts.place_one x.1 p (x.3 ∙ sym seat_t) (λ z. t≢0 (sym x.3 ∙ z))) x.4);
       grows = fin_is;
       others = λ u ne. refl;
       open_to = λ u o ne. open_still ps k1 1 u o.1 o.0 o.2 (off_p o.1 (λ z. ne (sym o.2 ∙ ap m.tickets z ∙ seat_t)));
-      open_from = λ u o. let q = open_was ps k1 1 u o in ((q.0, q.1, q.2), λ z. q.3 (inl (sts.place-one q.1 p (q.2 ∙ z ∙ sym seat_t) (λ w. q.0 (sym q.2 ∙ w)))));
+      open_from = λ u o. let q = open_was ps k1 1 u o in ((q.0, q.1, q.2), λ z. q.3 (inl (sts.place_one q.1 p (q.2 ∙ z ∙ sym seat_t) (λ w. q.0 (sym q.2 ∙ w)))));
       arrow_old = λ u v x ne. let oi = off_p x.0 (λ z. ne (sym x.2 ∙ ap m.tickets z ∙ seat_t)) in
           let oj = off_p x.1 (λ z. no_arrow x.0 (subst (λ j. m.arrows x.0 j ≡ true) z x.4)) in
           (x.0, x.1, (kept_on ps k1 1 x.0 oi).0 ∙ x.2, (kept_on ps k1 1 x.1 oj).0 ∙ x.3, kept_arrow ps k1 1 x.0 x.1 x.4 oi oj);
       arrow_only = λ u v x. let q = freed_arrow ps k1 1 x.0 x.1 x.4 in
           let ei = sym (kept_on ps k1 1 x.0 q.1).0 ∙ x.2 in (
             (x.0, x.1, ei, sym (kept_on ps k1 1 x.1 q.2).0 ∙ x.3, q.0),
-            λ z. q.1 (inl (sts.place-one x.0 p (ei ∙ z ∙ sym seat_t) (sts.arrow-ends x.0 x.1 q.0).0)),
+            λ z. q.1 (inl (sts.place_one x.0 p (ei ∙ z ∙ sym seat_t) (sts.arrow_ends x.0 x.1 q.0).0)),
           );
     }
 
@@ -206,11 +206,11 @@ module _ (g : Ground) (gf : g.fits ≡ fits) (ga : g.fits-any ≡ fits_any) (h :
       where
         go : Dec (u ≡ t) → All Sf d
         go (yes e) = inl (fin_own d (subst (λ v. In d (S.block v)) e i))
-        go (no ne) = inr (u, fins.open-to u o ne, i)
+        go (no ne) = inr (u, fins.open_to u o ne, i)
 
     all_from : (d : Event CodedPath) → All Sf d → All S d
     all_from d (inl i) = elim (fin_in d i) [ inl j ↦ inr (t, (t≢0, p, seat_t), j) | inr j ↦ inl j ]
-    all_from d (inr (u, o, i)) = inr (u, (fins.open-from u o).0, i)
+    all_from d (inr (u, o, i)) = inr (u, (fins.open_from u o).0, i)
 
     rec_to : (y : Node) → Recorded g (All S) y → Recorded g (All Sf) y
     rec_to y (inl i) = inl i
@@ -251,7 +251,7 @@ module _ (g : Ground) (gf : g.fits ≡ fits) (ga : g.fits-any ≡ fits_any) (h :
           where
             ne : r.mark ≢ t
             ne z =
-                let q = bk.mark-by r i (λ w. t≢0 (sym z ∙ w)) in
+                let q = bk.mark_by r i (λ w. t≢0 (sym z ∙ w)) in
                 ng (q.1, fin_own q.1 (subst (λ v. In q.1 (S.block v)) z q.2), subst (Takes q.1) (sym (ap (λ (v : Node). v.name) e)) q.3)
 
     files : (r : Record) → In r mf.records → In (bare r) (nodes R)
@@ -289,17 +289,17 @@ module _ (g : Ground) (gf : g.fits ≡ fits) (ga : g.fits-any ≡ fits_any) (h :
       listed = λ y i. let q = map_from bare mf.records y i in more_f y (bk.listed y (subst (λ v. In v (nodes R)) (sym q.2) (files q.0 q.1)));
       gone_listed = λ d i x tk. elim (fin_in d i) [
         | inl j ↦ (let q = takes_listed (history g ti.reach) m.locks p d x (sts.booked p p≢0 d (subst (λ v. In d (S.block v)) (sym seat_t) j)) tk in (q.0, more_f q.0 q.1, q.2))
-        | inr j ↦ (let q = bk.gone-listed d j x tk in (q.0, more_f q.0 q.1, q.2))
+        | inr j ↦ (let q = bk.gone_listed d j x tk in (q.0, more_f q.0 q.1, q.2))
       ];
-      mark_of = λ r i u d o j tk. let q = was r i in let w = (fins.open-from u o).0 in
+      mark_of = λ r i u d o j tk. let q = was r i in let w = (fins.open_from u o).0 in
           ap (λ (v : Record). v.mark) q.3 ∙ bk.mark_of q.0 q.1 u d w j (subst (Takes d) (ap (λ (v : Record). v.name) q.3) tk);
       mark_by = λ r i nz. let q = was r i in let e : r.mark ≡ q.0.mark = ap (λ (v : Record). v.mark) q.3 in
-          let w = bk.mark-by q.0 q.1 (λ z. nz (e ∙ z)) in
-          (subst Sf.Open (sym e) (fins.open-to q.0.mark w.0 q.2), w.1, subst (λ v. In w.1 (S.block v)) (sym e) w.2, subst (Takes w.1) (sym (ap (λ (v : Record). v.name) q.3)) w.3);
+          let w = bk.mark_by q.0 q.1 (λ z. nz (e ∙ z)) in
+          (subst Sf.Open (sym e) (fins.open_to q.0.mark w.0 q.2), w.1, subst (λ v. In w.1 (S.block v)) (sym e) w.2, subst (Takes w.1) (sym (ap (λ (v : Record). v.name) q.3)) w.3);
       note_known = λ r i j noted nz. let q = was r i in
           let b = and_parts (bit q.0.note j) (not (member j ps)) (and_parts (ltb j 32) (bit q.0.note j && not (member j ps)) (sym (forgets_note ps q.0 j) ∙ ap (λ (v : Record). bit v.note j) (sym q.3) ∙ noted)).1 in
           let o = freed_off ps k1 1 j nz in
-          let w = bk.note-known q.0 q.1 j b.0 o.2 in
+          let w = bk.note_known q.0 q.1 j b.0 o.2 in
           (w.0, subst (λ v. In w.0 (S.block v)) (sym o.1) w.1, subst (λ v. Makes w.0 v ⊎ Shows w.0 v) (sym (ap (λ (v : Record). v.name) q.3)) w.2);
       note_free = λ r i j lt z. note_free r (was r i) j lt z (cases_Bool (member j ps));
     }
@@ -309,7 +309,7 @@ module _ (g : Ground) (gf : g.fits ≡ fits) (ga : g.fits-any ≡ fits_any) (h :
           where
             off : (member j ps ≡ true) ⊎ (member j ps ≡ false) → (bit r0.note j && not (member j ps)) ≡ false
             off (inl b) = and_right (bit r0.note j) (not (member j ps)) (not_from_true (member j ps) b)
-            off (inr b) = and_left (bit r0.note j) (not (member j ps)) (bk.note-free r0 i j lt (sym (kept_on ps k1 1 j (not_member j ps b)).0 ∙ z))
+            off (inr b) = and_left (bit r0.note j) (not (member j ps)) (bk.note_free r0 i j lt (sym (kept_on ps k1 1 j (not_member j ps b)).0 ∙ z))
 
     pub finished_tied : Tied g hf mf nx
     finished_tied = record {
@@ -321,10 +321,10 @@ module _ (g : Ground) (gf : g.fits ≡ fits) (ga : g.fits-any ≡ fits_any) (h :
       base = ti.base;
       room = (let a = keep_length (λ (v : Record). not (eqb v.mark t)) R in let b = map_length (forgets ps) k1 in let c = ti.room.0 in omega arith, ti.room.1);
       told = ti.told;
-      told_past = λ x i. elim (in_append x (block t h) (past h) i) [ inl j ↦ ti.told t x j | inr j ↦ ti.told-past x j ];
+      told_past = λ x i. elim (in_append x (block t h) (past h) i) [ inl j ↦ ti.told t x j | inr j ↦ ti.told_past x j ];
       new = ti.new;
       past_low = λ d i. elim (fin_in d i) [
         | inl j ↦ (let lo = (reach_numbered g ti.reach).low t (t≢0, p, seat_t) in let e = reach_mine g (mix h m nx) ti.reach t d (t≢0, p, seat_t) j in omega arith)
-        | inr j ↦ ti.past-low d j
+        | inr j ↦ ti.past_low d j
       ];
     }

@@ -40,8 +40,8 @@ distinct_below n cs d h = subst (λ k. length cs ≤ k) (below_length n) (fits_i
 -- no more tickets finish than there are
 done_low : (h : Log) (m : Model) → Orderly h m → m.done ≤ 4294967295
 done_low h m o =
-    let a = distinct_below 4294967296 (0 ∷ past_tickets h) ((λ i. (o.past_off 0 i).0 refl), o.past-distinct) (λ c i. elim i [ inl e ↦ subst (λ v. v < 4294967296) (sym e) (omega arith) | inr j ↦ (let t = o.past_top c j in omega arith) ]) in
-    let b = o.done-is in
+    let a = distinct_below 4294967296 (0 ∷ past_tickets h) ((λ i. (o.past_off 0 i).0 refl), o.past_distinct) (λ c i. elim i [ inl e ↦ subst (λ v. v < 4294967296) (sym e) (omega arith) | inr j ↦ (let t = o.past_top c j in omega arith) ]) in
+    let b = o.done_is in
     omega arith
 
 module _ (mk : Making) (kept : Kept mk) (fit : all_of (untouched mk.first) mk.store ≡ true) (a0 : ℕ) (root : In (node_of 0 0 a0) (nodes mk.store)) (h : Log) (m : Model) (af : Went mk h m) where
@@ -69,26 +69,26 @@ module _ (mk : Making) (kept : Kept mk) (fit : all_of (untouched mk.first) mk.st
     live_tree = record { root = inr (a0, root_live); leads = actual_leads g refl refl h m nx ti };
     count = ti.room.0;
     most = ti.room.1;
-    place_one = ti.seats.place-one;
-    place_low = ti.seats.place-low;
+    place_one = ti.seats.place_one;
+    place_low = ti.seats.place_low;
     few = added_room g refl refl h m nx ti;
     new = fresh;
     holders = ti.seats.held;
-    arrow_ends = ti.seats.arrow-ends;
+    arrow_ends = ti.seats.arrow_ends;
     book = (orderly mk kept.ticket h m af).book;
     tickets_fit = (orderly mk kept.ticket h m af).top;
-    next_fits = (orderly mk kept.ticket h m af).next-top;
+    next_fits = (orderly mk kept.ticket h m af).next_top;
     done_fits = done_low h m (orderly mk kept.ticket h m af);
   }
     where
       fresh : (i : ℕ) → m.tickets i ≢ 0 → (r : Record) → In r m.records → r.name ≢ name_of (m.tickets i) (suc (m.added i))
       fresh i nz r j e =
-          let c = ti.seats.added-count i nz in
+          let c = ti.seats.added_count i nz in
           let a = added_room g refl refl h m nx ti i nz in
           let b = ti.room.0 in
           let d = ti.room.1 in
           let small : suc (count (m.tickets i) ((st h m).block (m.tickets i))) < 65536 = omega arith in
-          fresh_name g ti.reach (m.tickets i) (nz, i, refl) (ti.seats.first-low i nz) small (bare r) (ti.books.listed (bare r) (map_to bare m.records r j)) (e ∙ ap (λ k. m.tickets i * 65536 + suc k) c)
+          fresh_name g ti.reach (m.tickets i) (nz, i, refl) (ti.seats.first_low i nz) small (bare r) (ti.books.listed (bare r) (map_to bare m.records r j)) (e ∙ ap (λ k. m.tickets i * 65536 + suc k) c)
 
 -- over an empty store
 empty_tree : (rs : List Record) → rs ≡ [] → IsTree (nodes rs)
@@ -121,10 +121,10 @@ limit_same mk ((c, a) ∷ h) m' (m, af, e) = ap (λ (x : Model × Answer). x.0.l
     keeps v (orders room) = judged_limit (order_rows v room) v (v, ordered (order v)) refl
 
 healthy : (mk : Making) → Kept mk → (h : Log) (m : Model) → Went mk h m → m.fit ≡ true → Healthy m
-healthy mk kept h m af fits-now = go (cases_Bool (make mk).fit) (kept_tree mk kept).root
+healthy mk kept h m af fits_now = go (cases_Bool (make mk).fit) (kept_tree mk kept).root
   where
     empty : Still mk h m → Healthy m
-    empty s = elim s.why [ inl q ↦ absurd (both_ways m.fit q.0 fits-now) | inr q ↦ bare_one s q.0 ]
+    empty s = elim s.why [ inl q ↦ absurd (both_ways m.fit q.0 fits_now) | inr q ↦ bare_one s q.0 ]
       where
         bare_one : Still mk h m → m.records ≡ [] → Healthy m
         bare_one s e =
@@ -140,13 +140,13 @@ healthy mk kept h m af fits-now = go (cases_Bool (make mk).fit) (kept_tree mk ke
               most = omega arith;
               place_one = o.one;
               place_low = o.low;
-              few = λ i nz. (let z = s.none-added i in omega arith);
+              few = λ i nz. (let z = s.none_added i in omega arith);
               new = λ i nz r j k. subst (In r) e j;
               holders = o.held;
               arrow_ends = o.ends;
               book = o.book;
               tickets_fit = o.top;
-              next_fits = o.next-top;
+              next_fits = o.next_top;
               done_fits = done_low h m o;
             }
 
@@ -156,7 +156,7 @@ healthy mk kept h m af fits-now = go (cases_Bool (make mk).fit) (kept_tree mk ke
     go (inl e) (inr r) = healthy_rooted mk kept e r.0 r.1 h m af
 
 pub health : Health
-health mk kept h m af fits-now = healthy mk kept (calls h) m (went mk h m af) fits-now
+health mk kept h m af fits_now = healthy mk kept (calls h) m (went mk h m af) fits_now
 
 -- ── the way in the records and in the actual tree ──
 module _ (ys zs : List Node) (sub : (y : Node) → In y ys → In y zs) (up : Rising zs) where
@@ -189,13 +189,13 @@ alike m he n x hx = go (way ys n x) (way zs n x) refl refl
     deep : (d : ℕ) × Depth ys x d
     deep =
         let q = some_true (λ (y : Node). eqb y.name x) ys hx in
-        subst (λ v. (d : ℕ) × Depth ys v d) (eqb-true q.0.name x q.2) (he.live-tree.leads q.0 q.1)
+        subst (λ v. (d : ℕ) × Depth ys v d) (eqb-true q.0.name x q.2) (he.live_tree.leads q.0 q.1)
 
     up_to : (ls : List ℕ) → way ys n x ≡ Some ls → way zs n x ≡ Some ls
     up_to ls e = tree_way zs (rises_up m.records he.rising) he.tree.leads n x ls (below_more (λ y. In y ys) (λ y. In y zs) sub n (way_sound ys live_up (length ys) n x ls e))
 
     down_to : (ls : List ℕ) → way zs n x ≡ Some ls → way ys n x ≡ Some ls
-    down_to ls e = tree_way ys live_up he.live-tree.leads n x ls (below_part ys zs sub (rises_up m.records he.rising) n (way_sound zs (rises_up m.records he.rising) (length zs) n x ls e) deep.0 deep.1)
+    down_to ls e = tree_way ys live_up he.live_tree.leads n x ls (below_part ys zs sub (rises_up m.records he.rising) n (way_sound zs (rises_up m.records he.rising) (length zs) n x ls e) deep.0 deep.1)
 
     go : (o o' : Option (List ℕ)) → way ys n x ≡ o → way zs n x ≡ o' → way ys n x ≡ way zs n x
     go None None a b = a ∙ sym b

@@ -98,7 +98,7 @@ lasting mk kept h' m af = (by_place, (λ x. longer x.0.call x.1 (calls h')), λ 
         go (inl q) = absurd (true≢false (ap (λ (y : Model × Answer). is_finished y.1) (sym e ∙ q.1)))
         go (inr q) =
             let same : k ≡ m.done + 1 = ap (λ (y : Model × Answer). place_in y.1) (sym e ∙ q.1) in
-            let done = o.done-is in
+            let done = o.done_is in
             omega arith
 
     off : (room t : ℕ) (m' : Model) (ts : List ℕ) → step m (withdraws room t) ≡ (m', withdrawn ts) → (u : ℕ) → In u ts → ¬ (In u (past_tickets (calls h')))

@@ -78,7 +78,7 @@ module _ (g : Ground) where
   Locks R (rem t n) l = (l ≡ write n None) ⊎ ((y : Node) × R y × (y.name ≡ n) × (l ≡ write y.parent (Some y.label)))
 
   abbrev pub Tail : List ℕ → Option ℕ → CodedPath → Type 0
-  Tail ls None p = g.fits-any ls p ≡ true
+  Tail ls None p = g.fits_any ls p ≡ true
   Tail ls (Some a) p = g.fits (ls ++ (a ∷ [])) p ≡ true
 
   abbrev pub Collide : Tree → Lock CodedPath → Lock CodedPath → Type 0

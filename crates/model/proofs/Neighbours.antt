@@ -95,7 +95,7 @@ module _ (w : World) where
 
   -- what u made stands in no tree that none of u's events made
   pub stranger : (S : Ev w → Type 0) (u : ℕ) → ((e : Ev w) → S e → Fine e × (who e ≢ u)) → (d : Ev w) (x : ℕ) → Fine d → who d ≡ u → Makes d x → ¬ (Born w S x)
-  stranger S u h d x f o m (inl z) = let low = w.first-low x z in let high = name_high d x f m in omega arith
+  stranger S u h d x f o m (inl z) = let low = w.first_low x z in let high = name_high d x f m in omega arith
   stranger S u h d x f o m (inr t) = (h t.0 t.1).1 (sym (name_apart d t.0 x f (h t.0 t.1).0 m t.2) ∙ o)
 
   -- ── trees ──

@@ -73,7 +73,7 @@ module _ (w : World) where
       ]
 
       pub known_born : (ts : List ℕ) → Good s ts → (t : ℕ) → In t ts → (n : ℕ) → Knows (s.block t) n → Born w (λ d. In d (replay s ts)) n
-      known_born ts g t i n (inl p) = inl (subst w.First (sym p) w.first-root)
+      known_born ts g t i n (inl p) = inl (subst w.First (sym p) w.first_root)
       known_born ts g t i n (inr (e, j, inl m)) = inr (e, block_replay ts t e i j, m)
       known_born ts g t i n (inr (e, j, inr sh)) =
           let h = lookup (replay s ts) e (inv.runs ts g) (block_replay ts t e i j) in
@@ -92,11 +92,11 @@ module _ (w : World) where
 
     good_old : (ts : List ℕ) → Good s' ts → Good s ts
     good_old [] g = tt
-    good_old (t ∷ ts) g = (acts.grows.open-from t g.0, g.1, λ u a. g.2 u (acts.grows.arrow-old u t a), good_old ts g.3)
+    good_old (t ∷ ts) g = (acts.grows.open_from t g.0, g.1, λ u a. g.2 u (acts.grows.arrow_old u t a), good_old ts g.3)
 
     -- no open ticket that is neither t nor behind it conflicts with b
     no_arrow : (ts : List ℕ) → Good s' ts → In (who b) ts → (u : ℕ) → s.Open u → u ≢ who b → ¬ (In u ts) → (d : Ev w) → In d (s.block u) → ¬ (Conflicts w d b)
-    no_arrow ts g i u o ne out d j c = out (good_closed s' ts g u (who b) i (acts.arrow-new u d o ne j c))
+    no_arrow ts g i u o ne out d j c = out (good_closed s' ts g u (who b) i (acts.arrow_new u d o ne j c))
 
     pub block_sub : (u : ℕ) (e : Ev w) → In e (s.block u) → In e (s'.block u)
     block_sub u e i = go (ℕ_discrete u (who b))
@@ -118,13 +118,13 @@ module _ (w : World) where
 
     replay_sub : (ts : List ℕ) (e : Ev w) → In e (replay s ts) → In e (replay s' ts)
     replay_sub ts e i = elim (in_replay s ts e i) [
-      | inl k ↦ fin_replay s' ts e (subst (In e) (sym acts.grows.same-fin) k)
+      | inl k ↦ fin_replay s' ts e (subst (In e) (sym acts.grows.same_fin) k)
       | inr h ↦ block_replay s' ts h.0 e h.1 (block_sub h.0 e h.2)
     ]
 
     replay_plus : (ts : List ℕ) (e : Ev w) → In e (replay s' ts) → In e (replay s ts) ⊎ (e ≡ b)
     replay_plus ts e i = elim (in_replay s' ts e i) [
-      | inl k ↦ inl (fin_replay s ts e (subst (In e) acts.grows.same-fin k))
+      | inl k ↦ inl (fin_replay s ts e (subst (In e) acts.grows.same_fin k))
       | inr h ↦ elim (block_plus h.0 e h.2) [ inl j ↦ inl (block_replay s ts h.0 e h.1 j) | inr q ↦ inr q.0 ]
     ]
 
@@ -137,7 +137,7 @@ module _ (w : World) where
         go (no nv) = ap (count u) (acts.grows.others v nv)
 
     replay_count : (u : ℕ) → u ≢ who b → (ts : List ℕ) → count u (replay s' ts) ≡ count u (replay s ts)
-    replay_count u ne [] = ap (count u) acts.grows.same-fin
+    replay_count u ne [] = ap (count u) acts.grows.same_fin
     replay_count u ne (t ∷ ts) =
         count_append u (s'.block t) (replay s' ts) ∙ ap₂ (block_count u t ne) (replay_count u ne ts) ∙ sym (count_append u (s.block t) (replay s ts))
       where
@@ -145,7 +145,7 @@ module _ (w : World) where
         ap₂ p q = cc
 
     replay_same : (ts : List ℕ) → ¬ (In (who b) ts) → replay s' ts ≡ replay s ts
-    replay_same [] out = acts.grows.same-fin
+    replay_same [] out = acts.grows.same_fin
     replay_same (t ∷ ts) out =
         ap (λ es. es ++ replay s' ts) (acts.grows.others t (λ p. out (inl (sym p)))) ∙ ap (λ es. s.block t ++ es) (replay_same ts (λ i. out (inr i)))
 
@@ -156,7 +156,7 @@ module _ (w : World) where
     behind v ts g ne i (c ∷ es) sub r r' =
         let σ = es ++ replay s ts in
         let σ' = es ++ replay s' ts in
-        let o : s.Open v = acts.grows.open-from v g.0 in
+        let o : s.Open v = acts.grows.open_from v g.0 in
         let mine : In c (s.block v) = sub c (inl refl) in
         let whoc : who c ≡ v = inv.mine v c o mine in
         let same : count (who c) σ' ≡ count (who c) σ =
@@ -237,7 +237,7 @@ module _ (w : World) where
             conflict (rem v n) tc un d fd sd = shown_child w d x v n fd sd un
 
     pub act_runs : (ts : List ℕ) → Good s' ts → Run w (replay s' ts)
-    act_runs [] g = subst (Run w) (sym acts.grows.same-fin) (inv.runs [] tt)
+    act_runs [] g = subst (Run w) (sym acts.grows.same_fin) (inv.runs [] tt)
     act_runs (v ∷ ts) g = go (ℕ_discrete v (who b)) (in_dec (who b) ts) (act_runs ts g.3)
       where
         own : Good s' (who b ∷ ts) → Run w (replay s' (who b ∷ ts))
@@ -252,11 +252,11 @@ module _ (w : World) where
         go (no ne) (no out) ih = subst (Run w) (sym (replay_same (v ∷ ts) (λ h. elim h [ inl p ↦ ne (sym p) | inr i ↦ out i ]))) (inv.runs (v ∷ ts) (good_old (v ∷ ts) g))
 
     act_mine : (u : ℕ) (e : Ev w) → s'.Open u → In e (s'.block u) → who e ≡ u
-    act_mine u e o i = elim (block_plus u e i) [ inl j ↦ inv.mine u e (acts.grows.open-from u o) j | inr q ↦ ap who q.0 ∙ sym q.1 ]
+    act_mine u e o i = elim (block_plus u e i) [ inl j ↦ inv.mine u e (acts.grows.open_from u o) j | inr q ↦ ap who q.0 ∙ sym q.1 ]
 
     act_fine : (e : Ev w) → All s' e → Fine w e
-    act_fine e (inl i) = inv.fine e (inl (subst (In e) acts.grows.same-fin i))
-    act_fine e (inr (u, o, i)) = elim (block_plus u e i) [ inl j ↦ inv.fine e (inr (u, acts.grows.open-from u o, j)) | inr q ↦ subst (Fine w) (sym q.0) b_fine ]
+    act_fine e (inl i) = inv.fine e (inl (subst (In e) acts.grows.same_fin i))
+    act_fine e (inr (u, o, i)) = elim (block_plus u e i) [ inl j ↦ inv.fine e (inr (u, acts.grows.open_from u o, j)) | inr q ↦ subst (Fine w) (sym q.0) b_fine ]
 
     knows_more : (u n : ℕ) → Knows (s.block u) n → Knows (s'.block u) n
     knows_more u n (inl p) = inl p
@@ -264,17 +264,17 @@ module _ (w : World) where
 
     act_known : (u : ℕ) (e : Ev w) → s'.Open u → In e (s'.block u) → Knows (s'.block u) (node e)
     act_known u e o i = elim (block_plus u e i) [
-      | inl j ↦ knows_more u (node e) (inv.known u e (acts.grows.open-from u o) j)
+      | inl j ↦ knows_more u (node e) (inv.known u e (acts.grows.open_from u o) j)
       | inr q ↦ subst (λ v. Knows (s'.block v) (node e)) (sym q.1) (knows_more (who b) (node e) (subst (λ d. Knows (s.block (who b)) (node d)) (sym q.0) acts.grows.knows))
     ]
 
     pub act_inv : Inv s'
     act_inv = record {
       mine = act_mine;
-      past = λ e i o. inv.past e (subst (In e) acts.grows.same-fin i) (acts.grows.open-from (who e) o);
+      past = λ e i o. inv.past e (subst (In e) acts.grows.same_fin i) (acts.grows.open_from (who e) o);
       fine = act_fine;
       known = act_known;
       runs = act_runs;
-      arrow_open = λ u v a. elim (acts.grows.arrow-only u v a) [ inl h ↦ acts.grows.open-to u (inv.arrow-open u v h) | inr h ↦ acts.grows.open-to u h.1 ];
-      arrow_ne = λ u v a. elim (acts.grows.arrow-only u v a) [ inl h ↦ inv.arrow-ne u v h | inr h ↦ λ p. h.2 (p ∙ h.0) ];
+      arrow_open = λ u v a. elim (acts.grows.arrow_only u v a) [ inl h ↦ acts.grows.open_to u (inv.arrow_open u v h) | inr h ↦ acts.grows.open_to u h.1 ];
+      arrow_ne = λ u v a. elim (acts.grows.arrow_only u v a) [ inl h ↦ inv.arrow_ne u v h | inr h ↦ λ p. h.2 (p ∙ h.0) ];
     }

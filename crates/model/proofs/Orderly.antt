@@ -59,7 +59,7 @@ same_past (withdraws room t) k h = refl
 same_past (orders room) k h = refl
 
 carry : (h h' : Log) (m : Model) → past_tickets h' ≡ past_tickets h → Orderly h m → Orderly h' m
-carry h h' m e o = record { one = o.one; low = o.low; under = o.under; held = o.held; ends = o.ends; rank = o.rank; ceiling = o.ceiling; rank_low = o.rank-low; rank_up = o.rank_up; book = o.book; top = o.top; next_top = o.next-top; done_is = o.done-is ∙ ap length (sym e); past_distinct = subst Distinct (sym e) o.past-distinct; past_top = λ u i. o.past_top u (subst (In u) e i); past_off = λ u i. o.past_off u (subst (In u) e i) }
+carry h h' m e o = record { one = o.one; low = o.low; under = o.under; held = o.held; ends = o.ends; rank = o.rank; ceiling = o.ceiling; rank_low = o.rank_low; rank_up = o.rank_up; book = o.book; top = o.top; next_top = o.next_top; done_is = o.done_is ∙ ap length (sym e); past_distinct = subst Distinct (sym e) o.past_distinct; past_top = λ u i. o.past_top u (subst (In u) e i); past_off = λ u i. o.past_off u (subst (In u) e i) }
 
 module _ (h : Log) (m : Model) (o : Orderly h m) where
   -- ── an action ──
@@ -100,14 +100,14 @@ module _ (h : Log) (m : Model) (o : Orderly h m) where
         go (inl a) b =
             let jD = reached_closed m.arrows p (seat_of m t op).2 i j (member_in i D a) x (o.low j (o.ends i j x).1) in
             let e = rank_in i (member_in i D a) in let f = rank_in j jD in let lt = o.rank_up i j x in omega arith
-        go (inr a) (inl b) = let e = rank_out i a in let f = rank_in j (member_in j D b) in let lt = o.rank-low i in omega arith
+        go (inr a) (inl b) = let e = rank_out i a in let f = rank_in j (member_in j D b) in let lt = o.rank_low i in omega arith
         go (inr a) (inr b) = let e = rank_out i a in let f = rank_out j b in let lt = o.rank_up i j x in omega arith
     up i j (inr x) =
         let q = and_parts (eqb j p) (rivals m p ls i) x in
         let r = riv i q.1 in
         let jp = eqb-true j p q.0 in
         let f = rank_in j (subst (λ v. In v D) (sym jp) (reached_self m.arrows p)) in
-        let lt = o.rank-low i in
+        let lt = o.rank_low i in
         elim (cases_Bool (member i D)) [ inl a ↦ absurd (r.1 (member_in i D a)) | inr a ↦ (let e = rank_out i a in omega arith) ]
 
     pub granted : Orderly h' m'
@@ -125,13 +125,13 @@ module _ (h : Log) (m : Model) (o : Orderly h m) where
       ];
       rank = rank';
       ceiling = o.ceiling + o.ceiling;
-      rank_low = λ i. (let lt = o.rank-low i in elim (cases_Bool (member i D)) [ inl a ↦ (let e = rank_in i (member_in i D a) in omega arith) | inr a ↦ (let e = rank_out i a in omega arith) ]);
+      rank_low = λ i. (let lt = o.rank_low i in elim (cases_Bool (member i D)) [ inl a ↦ (let e = rank_in i (member_in i D a) in omega arith) | inr a ↦ (let e = rank_out i a in omega arith) ]);
       rank_up = λ i j x. up i j (or_cases (m.arrows i j) (eqb j p && rivals m p ls i) x);
       book = (let a = ltb-false 256 (length m.locks + k) rows_left in let b = append_length m.locks (map {B = Held} (λ l. record { holder = p; lock = l }) ls) in let c = map_length {B = Held} (λ l. record { holder = p; lock = l }) ls in omega arith);
       top = o.top;
-      next_top = o.next-top;
-      done_is = o.done-is ∙ ap length (sym same);
-      past_distinct = subst Distinct (sym same) o.past-distinct;
+      next_top = o.next_top;
+      done_is = o.done_is ∙ ap length (sym same);
+      past_distinct = subst Distinct (sym same) o.past_distinct;
       past_top = λ u i. o.past_top u (subst (In u) same i);
       past_off = λ u i. o.past_off u (subst (In u) same i);
     }
@@ -180,13 +180,13 @@ module _ (h : Log) (m : Model) (o : Orderly h m) where
       ends = λ i j x. let e = o.ends i j x in (keeps i e.0, keeps j e.1);
       rank = o.rank;
       ceiling = o.ceiling;
-      rank_low = o.rank-low;
+      rank_low = o.rank_low;
       rank_up = o.rank_up;
       book = o.book;
-      top = λ i. elim (side i) [ inl s ↦ subst (λ v. v ≤ 4294967295) (sym s.1) o.next-top | inr s ↦ subst (λ v. v ≤ 4294967295) (sym s.1) (o.top i) ];
-      next_top = elim (cases_Bool (eqb m.next 4294967295)) [ inl e ↦ subst (λ v. v ≤ 4294967295) (sym (cond-true (eqb m.next 4294967295) 0 (suc m.next) e)) (omega arith) | inr e ↦ subst (λ v. v ≤ 4294967295) (sym (cond-false (eqb m.next 4294967295) 0 (suc m.next) e)) (let a = o.next-top in let b = eqb-false m.next 4294967295 e in omega arith) ];
-      done_is = o.done-is;
-      past_distinct = o.past-distinct;
+      top = λ i. elim (side i) [ inl s ↦ subst (λ v. v ≤ 4294967295) (sym s.1) o.next_top | inr s ↦ subst (λ v. v ≤ 4294967295) (sym s.1) (o.top i) ];
+      next_top = elim (cases_Bool (eqb m.next 4294967295)) [ inl e ↦ subst (λ v. v ≤ 4294967295) (sym (cond-true (eqb m.next 4294967295) 0 (suc m.next) e)) (omega arith) | inr e ↦ subst (λ v. v ≤ 4294967295) (sym (cond-false (eqb m.next 4294967295) 0 (suc m.next) e)) (let a = o.next_top in let b = eqb-false m.next 4294967295 e in omega arith) ];
+      done_is = o.done_is;
+      past_distinct = o.past_distinct;
       past_top = o.past_top;
       past_off = λ u i. let k = o.past_off u i in (k.0, (λ j z. elim (side j) [ inl s ↦ (let lt = k.2 n0 in let w = s.1 in omega arith) | inr s ↦ k.1 j (sym s.1 ∙ z) ]), λ n1. (let e = next_up n1 in let lt = k.2 n0 in omega arith));
     }
@@ -220,11 +220,11 @@ module _ (h : Log) (m : Model) (o : Orderly h m) where
       ends = λ i j x. let a = parts i j x in let e = o.ends i j a.0 in (stays i a.1 e.0, stays j a.2 e.1);
       rank = o.rank;
       ceiling = o.ceiling;
-      rank_low = o.rank-low;
+      rank_low = o.rank_low;
       rank_up = λ i j x. o.rank_up i j (parts i j x).0;
       book = (let a = o.book in let b = keep_length (λ (v : Held). not (member v.holder ps)) m.locks in omega arith);
       top = λ i. elim (cases_Bool (member i ps)) [ inl e ↦ subst (λ v. v ≤ 4294967295) (sym (cond-true (member i ps) 0 (m.tickets i) e)) (omega arith) | inr e ↦ subst (λ v. v ≤ 4294967295) (sym (cond-false (member i ps) 0 (m.tickets i) e)) (o.top i) ];
-      next_top = o.next-top;
+      next_top = o.next_top;
       done_is = dn;
       past_distinct = ds;
       past_top = pt;
@@ -260,8 +260,8 @@ module _ (h : Log) (m : Model) (o : Orderly h m) where
       (λ k. granted ((acts room (removes t n), (change m (removes t n)).1) ∷ h) refl t (locks_of m.records (removes t n)) (change m (removes t n)).0.records m.added k.1.0 k.1.1.1.1.1.1.1.0 2 k.1.1.1.1.1.1.0 (two_locks (look n m.records) n))
   orderly_step (finishes t) = either (finishes t) (finish_rows m t)
       (free m (place_of m t ∷ []) (keep (λ r. not (eqb r.mark t)) m.records) 1, finished (m.done + 1))
-      (λ k. freed (place_of m t ∷ []) (keep (λ r. not (eqb r.mark t)) m.records) 1 ((finishes t, finished (m.done + 1)) ∷ h) (let e = o.done-is in omega arith)
-      ((λ i. (o.past_off t i).1 (place_of m t) (seat_of m t k.1.0).1), o.past-distinct) (λ u i. elim i [ inl e ↦ subst (λ v. v ≤ 4294967295) ((seat_of m t k.1.0).1 ∙ sym e) (o.top (place_of m t)) | inr j ↦ o.past_top u j ]) (λ u i. gone k.1.0 u i))
+      (λ k. freed (place_of m t ∷ []) (keep (λ r. not (eqb r.mark t)) m.records) 1 ((finishes t, finished (m.done + 1)) ∷ h) (let e = o.done_is in omega arith)
+      ((λ i. (o.past_off t i).1 (place_of m t) (seat_of m t k.1.0).1), o.past_distinct) (λ u i. elim i [ inl e ↦ subst (λ v. v ≤ 4294967295) ((seat_of m t k.1.0).1 ∙ sym e) (o.top (place_of m t)) | inr j ↦ o.past_top u j ]) (λ u i. gone k.1.0 u i))
     where
       gone : not_open m t ≡ false → (u : ℕ) → In u (t ∷ past_tickets h) → (u ≢ 0) × ((i : ℕ) → (free m (place_of m t ∷ []) (keep (λ r. not (eqb r.mark t)) m.records) 1).tickets i ≢ u) × (m.next ≢ 0 → u < m.next)
       gone op u (inr i) = freed_past (place_of m t ∷ []) (keep (λ r. not (eqb r.mark t)) m.records) 1 u i
@@ -272,7 +272,7 @@ module _ (h : Log) (m : Model) (o : Orderly h m) where
             λ n1. subst (λ v. v < m.next) (s.1 ∙ sym e) (o.under (place_of m t) (λ w. s.0 (sym s.1 ∙ w)) n1),
           )
   orderly_step (withdraws room t) = either (withdraws room t) (withdraw_rows m room t)
-      (free m (falling m t) (undone m t) 0, withdrawn (fallen m t)) (λ k. freed (falling m t) (undone m t) 0 ((withdraws room t, withdrawn (fallen m t)) ∷ h) (let e = o.done-is in omega arith) o.past-distinct o.past_top (freed_past (falling m t) (undone m t) 0))
+      (free m (falling m t) (undone m t) 0, withdrawn (fallen m t)) (λ k. freed (falling m t) (undone m t) 0 ((withdraws room t, withdrawn (fallen m t)) ∷ h) (let e = o.done_is in omega arith) o.past_distinct o.past_top (freed_past (falling m t) (undone m t) 0))
   orderly_step (orders room) = either (orders room) (order_rows m room) (m, ordered (order m)) (λ k. carry h ((orders room, ordered (order m)) ∷ h) m refl o)
 
 pub orderly : (mk : Making) → mk.first ≤ 4294967295 → (h : Log) (m : Model) → Went mk h m → Orderly h m

@@ -29,12 +29,12 @@ module _ (w : World) where
 
   module _ (s : State w.Path) (inv : Inv w s) (seen : (v : ℕ) (d : Ev w) (x : ℕ) → s.Open v → In d (s.block v) → Shows d x → Source s v x) where
     pub known_here : (v : ℕ) → s.Open v → (n : ℕ) → Knows (s.block v) n → Born w (All s) n
-    known_here v o n (inl p) = inl (subst w.First (sym p) w.first-root)
+    known_here v o n (inl p) = inl (subst w.First (sym p) w.first_root)
     known_here v o n (inr (d, j, inl m)) = inr (d, inr (v, o, j), m)
     known_here v o n (inr (d, j, inr sh)) = source_born s v n (seen v d n o j sh)
 
     pub born_closed : (x : ℕ) → x ≢ 0 → Born w (All s) x → Born w (All s) (w.par x)
-    born_closed x nz (inl z) = inl (w.first-closed x z nz)
+    born_closed x nz (inl z) = inl (w.first_closed x z nz)
     born_closed x nz (inr (e, inl i, m)) =
         let h = lookup w s.fin e (inv.runs [] tt) i in
         let live = ok_live w (λ d. In d h.0) h.2 e h.3 in
@@ -51,18 +51,18 @@ module _ (w : World) where
     fine_b = b_fine w s b s' inv acts
 
     all_to : (e : Ev w) → All s e → All s' e
-    all_to e (inl i) = inl (subst (In e) (sym acts.grows.same-fin) i)
-    all_to e (inr (u, o, i)) = inr (u, acts.grows.open-to u o, block_sub w s b s' inv acts u e i)
+    all_to e (inl i) = inl (subst (In e) (sym acts.grows.same_fin) i)
+    all_to e (inr (u, o, i)) = inr (u, acts.grows.open_to u o, block_sub w s b s' inv acts u e i)
 
     all_from : (e : Ev w) → All s' e → All s e ⊎ (e ≡ b)
-    all_from e (inl i) = inl (inl (subst (In e) acts.grows.same-fin i))
-    all_from e (inr (u, o, i)) = elim (block_plus w s b s' inv acts u e i) [ inl j ↦ inl (inr (u, acts.grows.open-from u o, j)) | inr q ↦ inr q.0 ]
+    all_from e (inl i) = inl (inl (subst (In e) acts.grows.same_fin i))
+    all_from e (inr (u, o, i)) = elim (block_plus w s b s' inv acts u e i) [ inl j ↦ inl (inr (u, acts.grows.open_from u o, j)) | inr q ↦ inr q.0 ]
 
     source_more : (v x : ℕ) → Source s v x → Source s' v x
     source_more v x (inl z) = inl z
-    source_more v x (inr (e, m, inl i)) = inr (e, m, inl (subst (In e) (sym acts.grows.same-fin) i))
-    source_more v x (inr (e, m, inr (z, o, i, inl p))) = inr (e, m, inr (z, acts.grows.open-to z o, block_sub w s b s' inv acts z e i, inl p))
-    source_more v x (inr (e, m, inr (z, o, i, inr a))) = inr (e, m, inr (z, acts.grows.open-to z o, block_sub w s b s' inv acts z e i, inr (acts.grows.arrow-old z v a)))
+    source_more v x (inr (e, m, inl i)) = inr (e, m, inl (subst (In e) (sym acts.grows.same_fin) i))
+    source_more v x (inr (e, m, inr (z, o, i, inl p))) = inr (e, m, inr (z, acts.grows.open_to z o, block_sub w s b s' inv acts z e i, inl p))
+    source_more v x (inr (e, m, inr (z, o, i, inr a))) = inr (e, m, inr (z, acts.grows.open_to z o, block_sub w s b s' inv acts z e i, inr (acts.grows.arrow_old z v a)))
 
     -- what b itself shows
     makes_conflict : (c e : Ev w) (x : ℕ) → Fine w c → Shows c x → Fine w e → Makes e x → Conflicts w e c
@@ -85,16 +85,16 @@ module _ (w : World) where
       where
         go : Born w (All s) x → Source s' (who b) x
         go (inl z) = inl z
-        go (inr (e, inl i, m)) = inr (e, m, inl (subst (In e) (sym acts.grows.same-fin) i))
-        go (inr (e, inr (u, o, i), m)) = inr (e, m, inr (u, acts.grows.open-to u o, block_sub w s b s' inv acts u e i, at (ℕ_discrete u (who b))))
+        go (inr (e, inl i, m)) = inr (e, m, inl (subst (In e) (sym acts.grows.same_fin) i))
+        go (inr (e, inr (u, o, i), m)) = inr (e, m, inr (u, acts.grows.open_to u o, block_sub w s b s' inv acts u e i, at (ℕ_discrete u (who b))))
           where
             at : Dec (u ≡ who b) → (u ≡ who b) ⊎ s'.Arrow u (who b)
             at (yes p) = inl p
-            at (no ne) = inr (acts.arrow-new u e o ne i (makes_conflict b e x fine_b sh (inv.fine e (inr (u, o, i))) m))
+            at (no ne) = inr (acts.arrow_new u e o ne i (makes_conflict b e x fine_b sh (inv.fine e (inr (u, o, i))) m))
 
     act_seen : (v : ℕ) (d : Ev w) (x : ℕ) → s'.Open v → In d (s'.block v) → Shows d x → Source s' v x
     act_seen v d x o i sh = elim (block_plus w s b s' inv acts v d i) [
-      | inl j ↦ source_more v x (so.seen v d x (acts.grows.open-from v o) j sh)
+      | inl j ↦ source_more v x (so.seen v d x (acts.grows.open_from v o) j sh)
       | inr q ↦ subst (λ u. Source s' u x) (sym q.1) (b_seen x (subst (λ c. Shows c x) q.0 sh))
     ]
 
@@ -115,24 +115,24 @@ module _ (w : World) where
     act_ahead z d x o i sh r a y near tk = go (block_plus w s b s' inv acts z d i) (all_from r a)
       where
         oz : s.Open z
-        oz = acts.grows.open-from z o
+        oz = acts.grows.open_from z o
 
         old : In d (s.block z) → All s r → Ahead z r
         old j h =
             let k = so.ahead z d x oz j sh r h y near tk in (
               k.0,
-              acts.grows.open-to k.0 k.1,
+              acts.grows.open_to k.0 k.1,
               block_sub w s b s' inv acts k.0 r k.2,
-              elim k.3 [ inl p ↦ inl p | inr ar ↦ inr (acts.grows.arrow-old z k.0 ar) ],
+              elim k.3 [ inl p ↦ inl p | inr ar ↦ inr (acts.grows.arrow_old z k.0 ar) ],
             )
 
         at : In d (s.block z) → r ≡ b → Dec (z ≡ who b) → (z ≡ who b) ⊎ s'.Arrow z (who b)
         at j q (yes p) = inl p
-        at j q (no ne) = inr (acts.arrow-new z d oz ne j (takes_conflict b d x y (inv.fine d (inr (z, oz, j))) sh fine_b near (subst (λ c. Takes c y) q tk)))
+        at j q (no ne) = inr (acts.arrow_new z d oz ne j (takes_conflict b d x y (inv.fine d (inr (z, oz, j))) sh fine_b near (subst (λ c. Takes c y) q tk)))
 
         go : In d (s.block z) ⊎ ((d ≡ b) × (z ≡ who b)) → All s r ⊎ (r ≡ b) → Ahead z r
         go (inl j) (inl h) = old j h
-        go (inl j) (inr q) = (who b, acts.grows.open-to (who b) acts.grows.opened, subst (In r) (sym acts.grows.own) (inl q), at j q (ℕ_discrete z (who b)))
+        go (inl j) (inr q) = (who b, acts.grows.open_to (who b) acts.grows.opened, subst (In r) (sym acts.grows.own) (inl q), at j q (ℕ_discrete z (who b)))
         go (inr p) (inl h) =
             let sb : Shows b x = subst (λ c. Shows c x) p.0 sh in
             let lx = shown_live w (All s) (count (who b) (s.block (who b))) b acts.ok x sb in
@@ -150,32 +150,32 @@ module _ (w : World) where
   pub start_sound : (s : State w.Path) → Starts s → Sound s
   start_sound s h = record {
     inv = start_inv w s h;
-    seen = λ v d x o. absurd (h.no-open v o);
-    closed = λ x nz l. (elim l.0 [ inl z ↦ inl (w.first-closed x z nz) | inr t ↦ absurd (none t.0 t.1) ], λ gn. none gn.0 gn.1);
-    ahead = λ z d x o. absurd (h.no-open z o);
+    seen = λ v d x o. absurd (h.no_open v o);
+    closed = λ x nz l. (elim l.0 [ inl z ↦ inl (w.first_closed x z nz) | inr t ↦ absurd (none t.0 t.1) ], λ gn. none gn.0 gn.1);
+    ahead = λ z d x o. absurd (h.no_open z o);
   }
     where
       none : (e : Ev w) → ¬ (All s e)
-      none e (inl i) = elim (subst (In e) h.no-fin i) [ ]
-      none e (inr t) = h.no-open t.0 t.1
+      none e (inl i) = elim (subst (In e) h.no_fin i) [ ]
+      none e (inr t) = h.no_open t.0 t.1
 
   module _ (s : State w.Path) (t : ℕ) (s' : State w.Path) (so : Sound s) (b : Begins s t s') where
     begin_all_to : (e : Ev w) → All s e → All s' e
-    begin_all_to e (inl i) = inl (subst (In e) (sym b.same-fin) i)
-    begin_all_to e (inr (u, o, i)) = inr (u, b.open-to u o, subst (In e) (sym (b.others u (λ p. b.not-open (subst s.Open p o)))) i)
+    begin_all_to e (inl i) = inl (subst (In e) (sym b.same_fin) i)
+    begin_all_to e (inr (u, o, i)) = inr (u, b.open_to u o, subst (In e) (sym (b.others u (λ p. b.not_open (subst s.Open p o)))) i)
 
     begin_all_from : (e : Ev w) → All s' e → All s e
-    begin_all_from e (inl i) = inl (subst (In e) b.same-fin i)
+    begin_all_from e (inl i) = inl (subst (In e) b.same_fin i)
     begin_all_from e (inr (u, o, i)) = let h = before w s t s' so.inv b u e o i in inr (u, h.0, subst (In e) h.1 i)
 
     begin_block : (u : ℕ) → s.Open u → (e : Ev w) → In e (s.block u) → In e (s'.block u)
-    begin_block u o e i = subst (In e) (sym (b.others u (λ p. b.not-open (subst s.Open p o)))) i
+    begin_block u o e i = subst (In e) (sym (b.others u (λ p. b.not_open (subst s.Open p o)))) i
 
     source_begin : (v x : ℕ) → Source s v x → Source s' v x
     source_begin v x (inl z) = inl z
-    source_begin v x (inr (e, m, inl i)) = inr (e, m, inl (subst (In e) (sym b.same-fin) i))
-    source_begin v x (inr (e, m, inr (z, o, i, inl p))) = inr (e, m, inr (z, b.open-to z o, begin_block z o e i, inl p))
-    source_begin v x (inr (e, m, inr (z, o, i, inr a))) = inr (e, m, inr (z, b.open-to z o, begin_block z o e i, inr (b.arrow-old z v a)))
+    source_begin v x (inr (e, m, inl i)) = inr (e, m, inl (subst (In e) (sym b.same_fin) i))
+    source_begin v x (inr (e, m, inr (z, o, i, inl p))) = inr (e, m, inr (z, b.open_to z o, begin_block z o e i, inl p))
+    source_begin v x (inr (e, m, inr (z, o, i, inr a))) = inr (e, m, inr (z, b.open_to z o, begin_block z o e i, inr (b.arrow_old z v a)))
 
     pub begin_sound : Sound s'
     begin_sound = record {
@@ -185,7 +185,7 @@ module _ (w : World) where
       ahead = λ z d x o i sh r a y near tk.
           let h = before w s t s' so.inv b z d o i in
           let k = so.ahead z d x h.0 (subst (In d) h.1 i) sh r (begin_all_from r a) y near tk in
-          (k.0, b.open-to k.0 k.1, begin_block k.0 k.1 r k.2, elim k.3 [ inl p ↦ inl p | inr ar ↦ inr (b.arrow-old z k.0 ar) ]);
+          (k.0, b.open_to k.0 k.1, begin_block k.0 k.1 r k.2, elim k.3 [ inl p ↦ inl p | inr ar ↦ inr (b.arrow_old z k.0 ar) ]);
     }
 
   module _ (s : State w.Path) (t : ℕ) (s' : State w.Path) (so : Sound s) (f : Finishes s t s') where
@@ -204,11 +204,11 @@ module _ (w : World) where
       where
         go : Dec (u ≡ t) → All s' e
         go (yes p) = inl (finish_own e (subst (λ v. In e (s.block v)) p i))
-        go (no ne) = inr (u, f.open-to u o ne, finish_block u ne e i)
+        go (no ne) = inr (u, f.open_to u o ne, finish_block u ne e i)
 
     finish_all_from : (e : Ev w) → All s' e → All s e
     finish_all_from e (inl i) = elim (fin_was w s t s' so.inv f e i) [ inl j ↦ inr (t, f.opened, j) | inr j ↦ inl j ]
-    finish_all_from e (inr (u, o, i)) = let h = f.open-from u o in inr (u, h.0, subst (In e) (f.others u h.1) i)
+    finish_all_from e (inr (u, o, i)) = let h = f.open_from u o in inr (u, h.0, subst (In e) (f.others u h.1) i)
 
     source_finish : (v x : ℕ) → Source s v x → Source s' v x
     source_finish v x (inl z) = inl z
@@ -217,22 +217,22 @@ module _ (w : World) where
       where
         go : Dec (z ≡ t) → In e s'.fin ⊎ ((y : ℕ) × s'.Open y × In e (s'.block y) × ((y ≡ v) ⊎ s'.Arrow y v))
         go (yes p) = inl (finish_own e (subst (λ y. In e (s.block y)) p i))
-        go (no ne) = inr (z, f.open-to z o ne, finish_block z ne e i, elim k [ inl p ↦ inl p | inr a ↦ inr (f.arrow-old z v a ne) ])
+        go (no ne) = inr (z, f.open_to z o ne, finish_block z ne e i, elim k [ inl p ↦ inl p | inr a ↦ inr (f.arrow_old z v a ne) ])
 
     pub finish_sound : Sound s'
     finish_sound = record {
       inv = finish_inv w s t s' so.inv f;
-      seen = λ v d x o i sh. let h = f.open-from v o in source_finish v x (so.seen v d x h.0 (subst (In d) (f.others v h.1) i) sh);
+      seen = λ v d x o i sh. let h = f.open_from v o in source_finish v x (so.seen v d x h.0 (subst (In d) (f.others v h.1) i) sh);
       closed = λ x nz l. live_same (All s) (All s') finish_all_to finish_all_from (w.par x) (so.closed x nz (live_same (All s') (All s) finish_all_from finish_all_to x l));
       ahead = ahead;
     }
       where
         ahead : (z : ℕ) (d : Ev w) (x : ℕ) → s'.Open z → In d (s'.block z) → Shows d x → (r : Ev w) → All s' r → (y : ℕ) → (y ≡ x) ⊎ (y ≡ w.par x) → Takes r y → (v : ℕ) × s'.Open v × In r (s'.block v) × ((z ≡ v) ⊎ s'.Arrow z v)
         ahead z d x o i sh r a y near tk =
-            let h = f.open-from z o in
+            let h = f.open_from z o in
             let k = so.ahead z d x h.0 (subst (In d) (f.others z h.1) i) sh r (finish_all_from r a) y near tk in
             let ne : k.0 ≢ t = λ p. elim k.3 [ inl q ↦ h.1 (q ∙ p) | inr ar ↦ f.free z (subst (s.Arrow z) p ar) ] in
-            (k.0, f.open-to k.0 k.1 ne, finish_block k.0 ne r k.2, elim k.3 [ inl q ↦ inl q | inr ar ↦ inr (f.arrow-old z k.0 ar h.1) ])
+            (k.0, f.open_to k.0 k.1 ne, finish_block k.0 ne r k.2, elim k.3 [ inl q ↦ inl q | inr ar ↦ inr (f.arrow_old z k.0 ar h.1) ])
 
   module _ (s : State w.Path) (W : List ℕ) (s' : State w.Path) (so : Sound s) (wd : Withdraws s W s') where
     wd_inv : Inv w s'
@@ -242,17 +242,17 @@ module _ (w : World) where
     wd_block u out e i = subst (In e) (sym (wd.others u out)) i
 
     wd_fin : (e : Ev w) → In e s.fin → In e s'.fin
-    wd_fin e i = subst (In e) (sym wd.same-fin) i
+    wd_fin e i = subst (In e) (sym wd.same_fin) i
 
     wd_all_from : (e : Ev w) → All s' e → All s e
-    wd_all_from e (inl i) = inl (subst (In e) wd.same-fin i)
-    wd_all_from e (inr (u, o, i)) = let h = wd.open-from u o in inr (u, h.0, subst (In e) (wd.others u h.1) i)
+    wd_all_from e (inl i) = inl (subst (In e) wd.same_fin i)
+    wd_all_from e (inr (u, o, i)) = let h = wd.open_from u o in inr (u, h.0, subst (In e) (wd.others u h.1) i)
 
     -- what is left is no event of an open ticket of W
     left : (e : Ev w) → All s' e → (z : ℕ) → s.Open z → In z W → who e ≢ z
-    left e (inl i) z o k p = so.inv.past e (subst (In e) wd.same-fin i) (subst s.Open (sym p) o)
+    left e (inl i) z o k p = so.inv.past e (subst (In e) wd.same_fin i) (subst s.Open (sym p) o)
     left e (inr (u, ou, i)) z o k p =
-        let h = wd.open-from u ou in
+        let h = wd.open_from u ou in
         h.1 (subst (λ y. In y W) (sym p ∙ so.inv.mine u e h.0 (subst (In e) (wd.others u h.1) i)) k)
 
     source_wd : (v x : ℕ) → ¬ (In v W) → Source s v x → Source s' v x
@@ -260,20 +260,20 @@ module _ (w : World) where
     source_wd v x out (inr (e, m, inl i)) = inr (e, m, inl (wd_fin e i))
     source_wd v x out (inr (e, m, inr (z, o, i, inl p))) =
         let oz : ¬ (In z W) = λ k. out (subst (λ y. In y W) p k) in
-        inr (e, m, inr (z, wd.open-to z o oz, wd_block z oz e i, inl p))
+        inr (e, m, inr (z, wd.open_to z o oz, wd_block z oz e i, inl p))
     source_wd v x out (inr (e, m, inr (z, o, i, inr a))) =
         let oz : ¬ (In z W) = λ k. out (wd.closed z v a k) in
-        inr (e, m, inr (z, wd.open-to z o oz, wd_block z oz e i, inr (wd.arrow-old z v a oz out)))
+        inr (e, m, inr (z, wd.open_to z o oz, wd_block z oz e i, inr (wd.arrow_old z v a oz out)))
 
     wd_seen : (v : ℕ) (d : Ev w) (x : ℕ) → s'.Open v → In d (s'.block v) → Shows d x → Source s' v x
-    wd_seen v d x o i sh = let h = wd.open-from v o in source_wd v x h.1 (so.seen v d x h.0 (subst (In d) (wd.others v h.1) i) sh)
+    wd_seen v d x o i sh = let h = wd.open_from v o in source_wd v x h.1 (so.seen v d x h.0 (subst (In d) (wd.others v h.1) i) sh)
 
     wd_ahead : (z : ℕ) (d : Ev w) (x : ℕ) → s'.Open z → In d (s'.block z) → Shows d x → (r : Ev w) → All s' r → (y : ℕ) → (y ≡ x) ⊎ (y ≡ w.par x) → Takes r y → (v : ℕ) × s'.Open v × In r (s'.block v) × ((z ≡ v) ⊎ s'.Arrow z v)
     wd_ahead z d x o i sh r a y near tk =
-        let h = wd.open-from z o in
+        let h = wd.open_from z o in
         let k = so.ahead z d x h.0 (subst (In d) (wd.others z h.1) i) sh r (wd_all_from r a) y near tk in
         let out : ¬ (In k.0 W) = λ j. left r a k.0 k.1 j (so.inv.mine k.0 r k.1 k.2) in
-        (k.0, wd.open-to k.0 k.1 out, wd_block k.0 out r k.2, elim k.3 [ inl q ↦ inl q | inr ar ↦ inr (wd.arrow-old z k.0 ar h.1 out) ])
+        (k.0, wd.open_to k.0 k.1 out, wd_block k.0 out r k.2, elim k.3 [ inl q ↦ inl q | inr ar ↦ inr (wd.arrow_old z k.0 ar h.1 out) ])
 
     -- a node that stands without W, whose parent is taken, was not taken by W
     wd_not_gone : (x : ℕ) → Live w (All s') x → (r : Ev w) → All s' r → Takes r (w.par x) → ¬ (Gone w (All s) x)
@@ -294,7 +294,7 @@ module _ (w : World) where
 
         go : Dec (In z W) → ⊥
         go (yes k) = known k kn
-        go (no out) = l.1 (q, inr (z, wd.open-to z o out, wd_block z out q i), tq)
+        go (no out) = l.1 (q, inr (z, wd.open_to z o out, wd_block z out q i), tq)
 
     wd_closed : (x : ℕ) → x ≢ 0 → Live w (All s') x → Live w (All s') (w.par x)
     wd_closed x nz l = (

@@ -115,12 +115,12 @@ numbers_same xs ys u v f g = key_same (λ x. x) xs ys (subst Up (sym (map_id xs)
     map_id (z ∷ zs) = ap (λ ws. z ∷ ws) (map_id zs)
 
 -- ── a query ──
-module _ (g : Ground) (same-fits : g.fits ≡ fits) (ys : List Node) (up : Rising ys) (leads : (y : Node) → In y ys → (d : ℕ) × Depth ys y.name d) where
+module _ (g : Ground) (same_fits : g.fits ≡ fits) (ys : List Node) (up : Rising ys) (leads : (y : Node) → In y ys → (d : ℕ) × Depth ys y.name d) where
   fit_to : (ls : List ℕ) (p : CodedPath) → fits ls p ≡ true → g.fits ls p ≡ true
-  fit_to ls p e = subst (λ f. f ls p ≡ true) (sym same-fits) e
+  fit_to ls p e = subst (λ f. f ls p ≡ true) (sym same_fits) e
 
   fit_from : (ls : List ℕ) (p : CodedPath) → g.fits ls p ≡ true → fits ls p ≡ true
-  fit_from ls p e = subst (λ f. f ls p ≡ true) same-fits e
+  fit_from ls p e = subst (λ f. f ls p ≡ true) same_fits e
 
   pub query_found : (n : ℕ) (p : CodedPath) (x : ℕ) → In x (query ys n p) → Found g (λ y. In y ys) n p x
   query_found n p x i = go (map_from nm (keep (λ y. fitting (way ys n y.name) p) ys) x i)
@@ -171,7 +171,7 @@ module _ (g : Ground) (T U : Tree) (to : (y : Node) → T y → U y) (from : (y 
   apply_more (rem t n) y h = (to y h.0, h.1)
 
 -- ── a run ──
-module _ (g : Ground) (same-fits : g.fits ≡ fits) where
+module _ (g : Ground) (same_fits : g.fits ≡ fits) where
   -- a tree with names that were given: by nobody that adds, or to an addition already counted
   abbrev Told : ℕ → (ℕ → ℕ) → Type 0
   Told n c = (n < g.base * 65536) ⊎ ((u : ℕ) × (j : ℕ) × (n ≡ u * 65536 + j) × (j < 65536) × (j ≤ c u))
@@ -209,9 +209,9 @@ module _ (g : Ground) (same-fits : g.fits ≡ fits) where
   )
     where
       same : query s.tree n p ≡ xs
-      same = numbers_same (query s.tree n p) xs (query_up g same-fits s.tree pt.up pt.leads n p) neat
-          (λ x i. (h.1 x).1 (query_found g same-fits s.tree pt.up pt.leads n p x i))
-          (λ x i. found_query g same-fits s.tree pt.up pt.leads n p x ((h.1 x).0 i))
+      same = numbers_same (query s.tree n p) xs (query_up g same_fits s.tree pt.up pt.leads n p) neat
+          (λ x i. (h.1 x).1 (query_found g same_fits s.tree pt.up pt.leads n p x i))
+          (λ x i. found_query g same_fits s.tree pt.up pt.leads n p x ((h.1 x).0 i))
   does s (add t n a x) pt neat h = (
     zs,
     one_more t s.additions,

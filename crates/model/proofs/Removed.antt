@@ -1,5 +1,5 @@
 -- A remove keeps the tie: the node has its ticket as its mark.
-use Rattle.std.proofs.Common.{◌≡◌, ℕ, ◌+◌, Bool, true, false, cond, not, eqb, ◌≢◌, ◌⊎◌, List, ◌∷◌, ◌++◌, map, Some, None, sym, refl, ap, ◌∙◌, subst, inl, inr, arith}
+use Rattle.std.proofs.Common.{◌≡◌, ℕ, Bool, true, false, cond, not, eqb, ◌≢◌, ◌⊎◌, List, ◌∷◌, ◌++◌, map, Some, None, sym, refl, ap, ◌∙◌, subst, inl, inr, arith}
 use native.Mathlib.Decide.{ℕ_discrete}
 use Rattle.std.proofs.lemmas.Bool.{true≢false, eqb-false, eq-eqb, ne_eqb, and_from, not_from_false}
 use Rattle.words.specs.Words.{bit}
@@ -25,7 +25,7 @@ use Rattle.model.proofs.Replays.{history, history_act}
 use Rattle.model.proofs.Acted.{own_in, block_sub, block_plus, acted}
 use Rattle.model.proofs.Retagged.{same_books, same_count}
 
-module _ (g : Ground) (gf : g.fits ≡ fits) (ga : g.fits-any ≡ fits_any) (h : Log) (m : Model) (nx : ℕ) (ti : Tied g h m nx) where
+module _ (g : Ground) (gf : g.fits ≡ fits) (ga : g.fits_any ≡ fits_any) (h : Log) (m : Model) (nx : ℕ) (ti : Tied g h m nx) where
   abbrev S : State CodedPath
   S = st h m
 
@@ -91,9 +91,9 @@ module _ (g : Ground) (gf : g.fits ≡ fits) (ga : g.fits-any ≡ fits_any) (h :
         (same_books g gf ga h m nx ti room b a f1 m.added refl ok.1.0 rem_turn f1_bare (λ y ad. ad)
         (λ r i u d o j tk. mark_of r i u d o tk (plus u d j) (ℕ_discrete r.name n))
         (λ r i nz. mark_by r i nz (ℕ_discrete r.name n))
-        (λ r i j noted z. let k = bk.note-known r i j (ap (λ w. bit w j) (sym (f1_note r)) ∙ noted) z in (k.0, sub (m.tickets j) k.0 k.1, k.2))
-        (λ r i j lt z. ap (λ w. bit w j) (f1_note r) ∙ bk.note-free r i j lt z))
-        (λ i i≢0. sts.added-count i i≢0 ∙ same_count g gf ga h m nx ti room b a f1 m.added refl ok.1.0 rem_turn f1_bare (λ y ad. ad) (λ u. refl) (m.tickets i))
+        (λ r i j noted z. let k = bk.note_known r i j (ap (λ w. bit w j) (sym (f1_note r)) ∙ noted) z in (k.0, sub (m.tickets j) k.0 k.1, k.2))
+        (λ r i j lt z. ap (λ w. bit w j) (f1_note r) ∙ bk.note_free r i j lt z))
+        (λ i i≢0. sts.added_count i i≢0 ∙ same_count g gf ga h m nx ti room b a f1 m.added refl ok.1.0 rem_turn f1_bare (λ y ad. ad) (λ u. refl) (m.tickets i))
         (λ i i≢0 j lo hi. let k = sts.numbers i i≢0 j lo hi in (k.0, sub (m.tickets i) k.0 k.1, k.2))
         (locked known1.1)
         (let e = map_length f1 R in let le = ti.room.0 in omega arith)
@@ -130,7 +130,7 @@ module _ (g : Ground) (gf : g.fits ≡ fits) (ga : g.fits-any ≡ fits_any) (h :
             (subst S.Open s (t1≢0, i1, st_t1), rem t n, subst (λ v. In (rem t n) (events (block v h'))) s (own_in g gf ga h m nx ti room b a (map f1 R) m.added refl ok.1.0), e)
         mark_by r i nz (no ne) =
             let s = sym (f1_else r ne) in
-            let k = bk.mark-by r i (λ z. nz (f1_else r ne ∙ z)) in
+            let k = bk.mark_by r i (λ z. nz (f1_else r ne ∙ z)) in
             (subst S.Open s k.0, k.1, sub (f1 r).mark k.1 (subst (λ v. In k.1 (S.block v)) s k.2), k.3)
 
         locked : look n R ≡ Some known1.0 → Booked (history g (act ti.reach (rem t n) (mix h' (change m (removes t n)).0 nx) rem_turn)) (change m (removes t n)).0.locks i1 (rem t n)

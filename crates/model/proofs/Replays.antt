@@ -15,7 +15,7 @@ use Rattle.model.proofs.Tables.{Table, Told, world, accepts_ok, ok_accepts, reco
 -- ── a plain run with the table is a plain run on trees ──
 module _ (g : Ground) (tb : Table g) where
   run_closed : (es : List (Event CodedPath)) → Run (world g tb) es → (x : ℕ) → x ≢ 0 → Live (world g tb) (λ d. In d es) x → Live (world g tb) (λ d. In d es) (tb.par x)
-  run_closed [] r x nz (inl z, k) = (inl ((world g tb).first-closed x z nz), λ h. h.1)
+  run_closed [] r x nz (inl z, k) = (inl ((world g tb).first_closed x z nz), λ h. h.1)
   run_closed [] r x nz (inr t, k) = absurd t.1
   run_closed (e ∷ es) r x nz l = grow_closed (world g tb) (λ d. In d es) (λ d. In d (e ∷ es)) (count (who e) es) e r.0 (λ d i. inr i) (λ d i. elim i [ inl q ↦ inr q | inr j ↦ inl j ]) (run_closed es r.1) x nz l
 
@@ -72,10 +72,10 @@ module _ (g : Ground) where
           act_sound w (state m) b (state m') so (record {
             grows = h.grows;
             ok = ok;
-            arrow_new = λ u d o ne i c. h.arrow-new u d o ne i
+            arrow_new = λ u d o ne i c. h.arrow_new u d o ne i
                 (conflicts_against g tb (λ y. In y h.book) (Kept w (state m) so)
-                (λ y j. (recorded_named g tb S fine y (h.book-only y j)).1)
-                (λ x kx. let z = recorded_noded g tb S fine x kx.0 in (z.0, h.book-has z.0 z.1 (λ gn. kx.1 (subst (Gone w (λ e. In e (state m).fin)) z.2 gn)), z.2))
+                (λ y j. (recorded_named g tb S fine y (h.book_only y j)).1)
+                (λ x kx. let z = recorded_noded g tb S fine x kx.0 in (z.0, h.book_has z.0 z.1 (λ gn. kx.1 (subst (Gone w (λ e. In e (state m).fin)) z.2 gn)), z.2))
                 (kept_closed w (state m) so) d b
                 (kept_known w (state m) so u o (node d) (so.inv.known u d o i)) (fine d (inr (u, o, i)))
                 (kept_known w (state m) so (who b) h.grows.opened (node b) h.grows.knows) (ok_fine w S k b ok) c);
@@ -107,21 +107,21 @@ module _ (g : Ground) where
       go (no ne) = subst (λ es. count u ((state m).block u) ≤ count u es) (sym (h.grows.others u ne)) (omega arith)
 
   act_keeps : (m : Mix) (b : Event CodedPath) (m' : Mix) → TakesTurn g m b m' → (y : Node) → Given m y → Given m' y
-  act_keeps m b m' h = keeps m m' (let e = h.same_next in omega arith) (λ u un o. (h.grows.open-from u o, count_up m b m' h u))
+  act_keeps m b m' h = keeps m m' (let e = h.same_next in omega arith) (λ u un o. (h.grows.open_from u o, count_up m b m' h u))
 
   act_numbered : (m : Mix) (b : Event CodedPath) (m' : Mix) (ns : List Node) → TakesTurn g m b m' → Numbered m ns → Numbered m' (made b ns)
   act_numbered m (ask t n p found) m' ns h num = record {
-    low = λ u o. let a = num.low u (h.grows.open-from u o) in let e = h.same_next in omega arith;
+    low = λ u o. let a = num.low u (h.grows.open_from u o) in let e = h.same_next in omega arith;
     given = λ y i. act_keeps m (ask t n p found) m' h y (num.given y i);
     one = num.one;
   }
   act_numbered m (rem t n) m' ns h num = record {
-    low = λ u o. let a = num.low u (h.grows.open-from u o) in let e = h.same_next in omega arith;
+    low = λ u o. let a = num.low u (h.grows.open_from u o) in let e = h.same_next in omega arith;
     given = λ y i. act_keeps m (rem t n) m' h y (num.given y i);
     one = num.one;
   }
   act_numbered m (add t n a x) m' ns h num = record {
-    low = λ u o. let q = num.low u (h.grows.open-from u o) in let e = h.same_next in omega arith;
+    low = λ u o. let q = num.low u (h.grows.open_from u o) in let e = h.same_next in omega arith;
     given = given;
     one = one;
   }
@@ -134,7 +134,7 @@ module _ (g : Ground) where
           let tl : t < m.next = num.low t h.grows.opened in
           let e = h.same_next in
           let tn : t < m'.next = omega arith in
-          let tally-one = tally_own CodedPath t n a x in
+          let tally_one = tally_own CodedPath t n a x in
           let top : suc k ≤ count t ((state m').block t) = subst (λ es. suc k ≤ count t es) (sym h.grows.own) (omega arith) in
           inr (t, suc k, h.ok.3, h.ok.2, h.ok.1, tn, λ o. top)
 
@@ -160,14 +160,14 @@ module _ (g : Ground) where
 
   pub reach_numbered : {m : Mix} (r : Reach g m) → Numbered m (history r)
   unfolding history
-  reach_numbered (start m h) = record { low = λ u o. absurd (h.no-open u o); given = λ y i. inl (g.first-low y i); one = g.first_one }
+  reach_numbered (start m h) = record { low = λ u o. absurd (h.no_open u o); given = λ y i. inl (g.first_low y i); one = g.first_one }
   reach_numbered (begin {m} r m' h e) = go (reach_numbered r)
     where
       go : Numbered m (history r) → Numbered m' (history r)
       go num = record {
-        low = λ u o. elim (h.open-from u o) [ inl k ↦ (let a = num.low u k in omega arith) | inr p ↦ omega arith ];
+        low = λ u o. elim (h.open_from u o) [ inl k ↦ (let a = num.low u k in omega arith) | inr p ↦ omega arith ];
         given = λ y i. keeps m m' (omega arith) (λ u un o. let ne : u ≢ m.next = λ p. omega arith in
-            (elim (h.open-from u o) [ inl k ↦ k | inr p ↦ absurd (ne p) ], subst (λ es. count u ((state m).block u) ≤ count u es) (sym (h.others u ne)) (omega arith))) y (num.given y i);
+            (elim (h.open_from u o) [ inl k ↦ k | inr p ↦ absurd (ne p) ], subst (λ es. count u ((state m).block u) ≤ count u es) (sym (h.others u ne)) (omega arith))) y (num.given y i);
         one = num.one;
       }
   reach_numbered (act {m} r b m' h) = act_numbered m b m' (history r) h (reach_numbered r)
@@ -175,8 +175,8 @@ module _ (g : Ground) where
     where
       go : Numbered m (history r) → Numbered m' (history r)
       go num = record {
-        low = λ u o. let a = num.low u (h.open-from u o).0 in omega arith;
-        given = λ y i. keeps m m' (omega arith) (λ u un o. let k = h.open-from u o in
+        low = λ u o. let a = num.low u (h.open_from u o).0 in omega arith;
+        given = λ y i. keeps m m' (omega arith) (λ u un o. let k = h.open_from u o in
             (k.0, subst (λ es. count u ((state m).block u) ≤ count u es) (sym (h.others u k.1)) (omega arith))) y (num.given y i);
         one = num.one;
       }
@@ -184,8 +184,8 @@ module _ (g : Ground) where
     where
       go : Numbered m (history r) → Numbered m' (history r)
       go num = record {
-        low = λ u o. let a = num.low u (h.open-from u o).0 in omega arith;
-        given = λ y i. keeps m m' (omega arith) (λ u un o. let k = h.open-from u o in
+        low = λ u o. let a = num.low u (h.open_from u o).0 in omega arith;
+        given = λ y i. keeps m m' (omega arith) (λ u un o. let k = h.open_from u o in
             (k.0, subst (λ es. count u ((state m).block u) ≤ count u es) (sym (h.others u k.1)) (omega arith))) y (num.given y i);
         one = num.one;
       }
@@ -344,7 +344,7 @@ module _ (g : Ground) (m : Mix) (r : Reach g m) where
       (r.0, r.1, r.2 ∙ q.1.0)
 
   -- the root stays
-  pub root_standing : Standing g (All (state m)) g.first-root.0
+  pub root_standing : Standing g (All (state m)) g.first_root.0
   root_standing =
-      let z = g.first-root in
+      let z = g.first_root in
       (inl z.1, λ t. no_root t.0 (sound.inv.fine t.0 t.1) (subst (Takes t.0) z.2 t.2))

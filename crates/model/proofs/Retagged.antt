@@ -18,7 +18,7 @@ use Rattle.model.proofs.Tied.{event_of, events, st, mix, Books, Seats, Tied, blo
 use Rattle.model.proofs.Replays.{history, history_act}
 use Rattle.model.proofs.Acted.{nodes_map, rec_more, rec_less}
 
-module _ (g : Ground) (gf : g.fits ≡ fits) (ga : g.fits-any ≡ fits_any) (h : Log) (m : Model) (nx : ℕ) (ti : Tied g h m nx) where
+module _ (g : Ground) (gf : g.fits ≡ fits) (ga : g.fits_any ≡ fits_any) (h : Log) (m : Model) (nx : ℕ) (ti : Tied g h m nx) where
   abbrev S : State CodedPath
   S = st h m
 
@@ -61,7 +61,7 @@ module _ (g : Ground) (gf : g.fits ≡ fits) (ga : g.fits-any ≡ fits_any) (h :
       to = λ y rc ng. subst (In y) (sym (nodes_map f same R))
           (elim (rec_less g gf ga h m nx ti room b a (map f R) added acc op y rc) [ inl k ↦ bk.to y k ng | inr ad ↦ absurd (none_added y ad) ]);
       listed = λ y i. history_act g ti.reach (event_of b a) (mix h' m' nx) tk y (bk.listed y (subst (In y) (nodes_map f same R) i));
-      gone_listed = λ d i x k. let z = bk.gone-listed d i x k in (z.0, history_act g ti.reach (event_of b a) (mix h' m' nx) tk z.0 z.1, z.2);
+      gone_listed = λ d i x k. let z = bk.gone_listed d i x k in (z.0, history_act g ti.reach (event_of b a) (mix h' m' nx) tk z.0 z.1, z.2);
       mark_of = λ r i u d o j k. let q = map_from f R r i in
           ap (λ (v : Record). v.mark) q.2 ∙ mo q.0 q.1 u d o j (subst (Takes d) (nm q.0 r q.2) k);
       mark_by = λ r i nz. let q = map_from f R r i in let mk : r.mark ≡ (f q.0).mark = ap (λ (v : Record). v.mark) q.2 in
@@ -78,12 +78,12 @@ module _ (g : Ground) (gf : g.fits ≡ fits) (ga : g.fits-any ≡ fits_any) (h :
 
     -- the counts, where no addition is counted
     pub same_count : ((u : ℕ) → tally u (event_of b a) ≡ 0) → (u : ℕ) → count u (S.block u) ≡ count u (S'.block u)
-    same_count no-tally u = go (ℕ_discrete u (actor b))
+    same_count no_tally u = go (ℕ_discrete u (actor b))
       where
         go : Dec (u ≡ actor b) → count u (S.block u) ≡ count u (S'.block u)
         go (no ne) = sym (ap (λ xs. count u (events xs)) (block_other room b a h u ne))
         go (yes q) =
-            let z : tally u (event_of b a) ≡ 0 = no-tally u in
+            let z : tally u (event_of b a) ≡ 0 = no_tally u in
             let one : count u (events (block (actor b) h')) ≡ tally u (event_of b a) + count u (events (block (actor b) h)) = ap (λ xs. count u (events xs)) (block_own room b a h acc) in
             let two : count u (events (block (actor b) h)) ≡ count u (events (block (actor b) h')) = omega arith in
             subst (λ v. count u (events (block v h)) ≡ count u (events (block v h'))) (sym q) two

@@ -1,5 +1,5 @@
 -- The law where the store has a root and the scheduler is fit: the tie gives the equation.
-use Rattle.std.proofs.Common.{◌≡◌, ℕ, ◌+◌, ◌<◌, true, false, eqb, ◌≢◌, ◌⊎◌, List, [], ◌∷◌, ◌++◌, map, Some, sym, refl, ap, ◌∙◌, subst, inl, inr}
+use Rattle.std.proofs.Common.{◌≡◌, ℕ, ◌<◌, true, false, eqb, ◌≢◌, ◌⊎◌, List, [], ◌∷◌, ◌++◌, map, Some, sym, refl, ap, ◌∙◌, subst, inl, inr}
 use Rattle.std.proofs.lemmas.Bool.{both_ways, eqb-true, eq-eqb}
 use Rattle.path.specs.declared.coded.CodedPath.{CodedPath}
 use Rattle.tree.specs.Trees.{Depth, Node, actual, node_of, nodes}
@@ -59,23 +59,23 @@ answers_told : (xs : List (Action × Answer)) → ((x : Action × Answer) → In
 answers_told [] h = refl
 answers_told (x ∷ xs) h = ap (λ b. b ∷ map ans_of (events xs)) (h x (inl refl)).1 ∙ ap (λ bs. x.1 ∷ bs) (answers_told xs (λ y i. h y (inr i)))
 
-module _ (g : Ground) (gf : g.fits ≡ fits) (ga : g.fits-any ≡ fits_any) (h : Log) (m : Model) (nx : ℕ) (ti : Tied g h m nx) where
+module _ (g : Ground) (gf : g.fits ≡ fits) (ga : g.fits_any ≡ fits_any) (h : Log) (m : Model) (nx : ℕ) (ti : Tied g h m nx) where
   abbrev S : State CodedPath
   S = st h m
 
   -- the place of an open ticket
   pub place_is : (t i : ℕ) → t ≢ 0 → m.tickets i ≡ t → place_of m t ≡ i
-  place_is t i t0 e = ti.seats.place-one (place_of m t) i (eqb-true (m.tickets (place_of m t)) t hit.0 ∙ sym e) (λ z. t0 (sym (eqb-true (m.tickets (place_of m t)) t hit.0) ∙ z))
+  place_is t i t0 e = ti.seats.place_one (place_of m t) i (eqb-true (m.tickets (place_of m t)) t hit.0 ∙ sym e) (λ z. t0 (sym (eqb-true (m.tickets (place_of m t)) t hit.0) ∙ z))
     where
       found : place_of m t ≢ 32
-      found z = both_ways (eqb (m.tickets i) t) (lowest_miss (λ j. eqb (m.tickets j) t) z i (ti.seats.place-low i (λ w. t0 (sym e ∙ w)))) (eq-eqb (m.tickets i) t e)
+      found z = both_ways (eqb (m.tickets i) t) (lowest_miss (λ j. eqb (m.tickets j) t) z i (ti.seats.place_low i (λ w. t0 (sym e ∙ w)))) (eq-eqb (m.tickets i) t e)
 
       hit : (eqb (m.tickets (place_of m t)) t ≡ true) × (place_of m t < 32)
       hit = lowest_hit (λ j. eqb (m.tickets j) t) found
 
   no_arrow : (u v : ℕ) → arrow_between m u v ≡ false → ¬ (S.Arrow u v)
   no_arrow u v e (i, j, eu, ev, x) =
-      let q = ti.seats.arrow-ends i j x in
+      let q = ti.seats.arrow_ends i j x in
       let pi = place_is u i (λ z. q.0 (eu ∙ z)) eu in
       let pj = place_is v j (λ z. q.1 (ev ∙ z)) ev in
       both_ways (m.arrows i j) (subst (λ b. m.arrows i b ≡ false) pj (subst (λ a. m.arrows a (place_of m v) ≡ false) pi e)) x
@@ -105,7 +105,7 @@ module _ (g : Ground) (gf : g.fits ≡ fits) (ga : g.fits-any ≡ fits_any) (h :
   second_is ts = laid ts [] ∙ ap (λ zs. zs ++ events (one_by_one h ts)) (forwards_events (past h)) ∙ sym (map_append event (in_order (past h)) (one_by_one h ts))
 
   second_told : (ts : List ℕ) (x : Action × Answer) → In x (second h ts) → Told x
-  second_told ts x i = elim (in_append x (in_order (past h)) (one_by_one h ts) i) [ inl j ↦ ti.told-past x (in_order_in (past h) x j) | inr j ↦ blocks ts j ]
+  second_told ts x i = elim (in_append x (in_order (past h)) (one_by_one h ts) i) [ inl j ↦ ti.told_past x (in_order_in (past h) x j) | inr j ↦ blocks ts j ]
     where
       blocks : (us : List ℕ) → In x (one_by_one h us) → Told x
       blocks [] j = absurd j
@@ -139,8 +139,8 @@ module _ (g : Ground) (gf : g.fits ≡ fits) (ga : g.fits-any ≡ fits_any) (h :
 
       same : run.0 ≡ actual m.records
       same = key_same (λ (y : Node). y.name) run.0 (actual m.records) run.2 (actual_up g gf ga h m nx ti)
-          (λ y i. standing_actual g gf ga h m nx ti y (ag.tree-to y (subst (λ es. ends T0 es y) (sym (second_is ts)) (run.3 y i))))
-          (λ y i. run.4 y (subst (λ es. ends T0 es y) (second_is ts) (ag.tree-from y (actual_standing g gf ga h m nx ti y i))))
+          (λ y i. standing_actual g gf ga h m nx ti y (ag.tree_to y (subst (λ es. ends T0 es y) (sym (second_is ts)) (run.3 y i))))
+          (λ y i. run.4 y (subst (λ es. ends T0 es y) (second_is ts) (ag.tree_from y (actual_standing g gf ga h m nx ti y i))))
 
 -- a making over a store that is fit and has a root
 pub agrees_rooted : (mk : Making) (kept : Kept mk) → all_of (untouched mk.first) mk.store ≡ true → (a0 : ℕ) → In (node_of 0 0 a0) (nodes mk.store) → (h : Log) (m : Model) → Went mk h m → (ts : List ℕ) → Arrangement m ts → Agreed mk h m ts
@@ -149,7 +149,7 @@ agrees_rooted mk kept fit a0 root h m af ts a =
     tied_agrees g refl refl h m t.0 t.1 (record {
       up = subst Rising (sym (all_live mk kept fit a0 root)) (store_up mk kept fit a0 root);
       leads = subst (λ ys. (y : Node) → In y ys → (d : ℕ) × Depth ys y.name d) (sym (all_live mk kept fit a0 root)) (kept_tree mk kept).leads;
-      told = λ y i. inl (g.first-low y i);
+      told = λ y i. inl (g.first_low y i);
     }) ts a
   where
     g : Ground

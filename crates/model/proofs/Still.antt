@@ -1,6 +1,6 @@
 -- A scheduler that is unfit, or whose store is empty, accepts no action, so that the law holds of nothing.
-use Rattle.std.proofs.Common.{◌≡◌, ℕ, ◌+◌, Bool, true, false, cond, not, eqb, ◌≢◌, ◌⊎◌, List, [], ◌∷◌, ◌++◌, map, Some, sym, refl, ap, ◌∙◌, subst, inl, inr}
-use Rattle.std.proofs.lemmas.Bool.{true≢false, both_ways, not_false}
+use Rattle.std.proofs.Common.{◌≡◌, ℕ, ◌+◌, Bool, true, false, cond, not, eqb, ◌⊎◌, List, [], ◌∷◌, ◌++◌, map, Some, sym, refl, ap, ◌∙◌, subst, inl, inr}
+use Rattle.std.proofs.lemmas.Bool.{true≢false, both_ways, not-false}
 use Rattle.tree.specs.declared.record.Record.{Record}
 use Rattle.tree.specs.Trees.{actual}
 use Rattle.tree.specs.Lists.{keep}
@@ -31,11 +31,11 @@ module _ (mk : Making) (h : Log) (m : Model) (s : Still mk h m) where
   Goes c x = Still mk ((c, x.1) ∷ h) x.0
 
   unmoved : (c : Call) (k : ℕ) → Still mk ((c, refused k) ∷ h) m
-  unmoved opens k = record { none_done = s.none_done; none_past = s.none-past; none_added = s.none-added; why = s.why }
-  unmoved (acts room b) k = record { none_done = s.none_done; none_past = s.none-past; none_added = s.none-added; why = s.why }
-  unmoved (finishes t) k = record { none_done = s.none_done; none_past = s.none-past; none_added = s.none-added; why = s.why }
-  unmoved (withdraws room t) k = record { none_done = s.none_done; none_past = s.none-past; none_added = s.none-added; why = s.why }
-  unmoved (orders room) k = record { none_done = s.none_done; none_past = s.none-past; none_added = s.none-added; why = s.why }
+  unmoved opens k = record { none_done = s.none_done; none_past = s.none_past; none_added = s.none_added; why = s.why }
+  unmoved (acts room b) k = record { none_done = s.none_done; none_past = s.none_past; none_added = s.none_added; why = s.why }
+  unmoved (finishes t) k = record { none_done = s.none_done; none_past = s.none_past; none_added = s.none_added; why = s.why }
+  unmoved (withdraws room t) k = record { none_done = s.none_done; none_past = s.none_past; none_added = s.none_added; why = s.why }
+  unmoved (orders room) k = record { none_done = s.none_done; none_past = s.none_past; none_added = s.none_added; why = s.why }
 
   either : (c : Call) (ts : Rows) (r : Model × Answer) → (Passed ts → Goes c r) → Goes c (judge ts m r)
   either c ts r f = elim (judged ts m r) [
@@ -46,17 +46,17 @@ module _ (mk : Making) (h : Log) (m : Model) (s : Still mk h m) where
   -- no node is known
   no_node : (n p : ℕ) → not m.fit ≡ false → unknown (look n m.records) n p ≡ false → ⊥
   no_node n p fit un = elim s.why [
-    | inl q ↦ both_ways m.fit q.0 (not_false m.fit fit)
+    | inl q ↦ both_ways m.fit q.0 (not-false m.fit fit)
     | inr q ↦ true≢false (subst (λ rs. unknown (look n rs) n p ≡ false) q.0 un)
   ]
 
   -- the store stays empty
   empties : (f : List Record → List Record) → f [] ≡ [] → not m.fit ≡ false → (f m.records ≡ []) × (mk.store ≡ [])
-  empties f e fit = elim s.why [ inl q ↦ absurd (both_ways m.fit q.0 (not_false m.fit fit)) | inr q ↦ (ap f q.0 ∙ e, q.1) ]
+  empties f e fit = elim s.why [ inl q ↦ absurd (both_ways m.fit q.0 (not-false m.fit fit)) | inr q ↦ (ap f q.0 ∙ e, q.1) ]
 
   pub still_step : (c : Call) → Goes c (step m c)
   still_step opens = either opens (open_rows m) (open_at m (free_place m), ticket m.next)
-      (λ k. record { none_done = s.none_done; none_past = s.none-past; none_added = λ i. zero_if (eqb i (free_place m)) (m.added i) (s.none-added i); why = inr (empties (λ rs. rs) refl k.0) })
+      (λ k. record { none_done = s.none_done; none_past = s.none_past; none_added = λ i. zero_if (eqb i (free_place m)) (m.added i) (s.none_added i); why = inr (empties (λ rs. rs) refl k.0) })
   still_step (acts room (asks t n q)) = either (acts room (asks t n q)) (rows m room (asks t n q)) (change m (asks t n q)) (λ k. absurd (no_node n (place_of m t) k.0 k.1.1.0))
   still_step (acts room (adds t n q)) = either (acts room (adds t n q)) (rows m room (adds t n q)) (change m (adds t n q)) (λ k. absurd (no_node n (place_of m t) k.0 k.1.1.0))
   still_step (acts room (removes t n)) = either (acts room (removes t n)) (rows m room (removes t n)) (change m (removes t n)) (λ k. absurd (no_node n (place_of m t) k.0 k.1.1.0))
@@ -64,18 +64,18 @@ module _ (mk : Making) (h : Log) (m : Model) (s : Still mk h m) where
       (free m (place_of m t ∷ []) (keep (λ r. not (eqb r.mark t)) m.records) 1, finished (m.done + 1))
       (λ k. record {
         none_done = s.none_done;
-        none_past = ap (λ xs. xs ++ past h) (s.none_done t) ∙ s.none-past;
-        none_added = λ i. zero_if (member i (place_of m t ∷ [])) (m.added i) (s.none-added i);
+        none_past = ap (λ xs. xs ++ past h) (s.none_done t) ∙ s.none_past;
+        none_added = λ i. zero_if (member i (place_of m t ∷ [])) (m.added i) (s.none_added i);
         why = inr (empties (λ rs. (free m (place_of m t ∷ []) (keep (λ r. not (eqb r.mark t)) rs) 1).records) refl k.0);
       })
   still_step (withdraws room t) = either (withdraws room t) (withdraw_rows m room t)
       (free m (falling m t) (undone m t) 0, withdrawn (fallen m t))
       (λ k. record {
         none_done = s.none_done;
-        none_past = s.none-past;
-        none_added = λ i. zero_if (member i (falling m t)) (m.added i) (s.none-added i);
+        none_past = s.none_past;
+        none_added = λ i. zero_if (member i (falling m t)) (m.added i) (s.none_added i);
         why = inr (elim s.why [
-          | inl q ↦ absurd (both_ways m.fit q.0 (not_false m.fit k.0))
+          | inl q ↦ absurd (both_ways m.fit q.0 (not-false m.fit k.0))
           | inr q ↦ (gone m.records q.0, q.1)
         ]);
       })
@@ -86,10 +86,10 @@ module _ (mk : Making) (h : Log) (m : Model) (s : Still mk h m) where
       gone rs e = subst (λ xs. map (forgets (falling m t))
           (map (λ (r : Record). cond (member r.mark (fallen m t)) (with_mark r 0) r)
           (keep (λ (r : Record). not (member (ticket_part r.name) (fallen m t))) xs)) ≡ []) (sym e) refl
-  still_step (orders room) = either (orders room) (order_rows m room) (m, ordered (order m)) (λ k. record { none_done = s.none_done; none_past = s.none-past; none_added = s.none-added; why = s.why })
+  still_step (orders room) = either (orders room) (order_rows m room) (m, ordered (order m)) (λ k. record { none_done = s.none_done; none_past = s.none_past; none_added = s.none_added; why = s.why })
 
   nothing_second : (ts : List ℕ) → second h ts ≡ []
-  nothing_second ts = ap (λ xs. in_order xs ++ one_by_one h ts) s.none-past ∙ blocks ts
+  nothing_second ts = ap (λ xs. in_order xs ++ one_by_one h ts) s.none_past ∙ blocks ts
     where
       blocks : (us : List ℕ) → one_by_one h us ≡ []
       blocks [] = refl

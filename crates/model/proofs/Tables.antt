@@ -25,19 +25,19 @@ module _ (g : Ground) (tb : Table g) where
 
   pub first_up : (x : ℕ) → Has (λ y. In y g.first) x → x ≢ 0 → Has (λ y. In y g.first) (tb.par x)
   first_up x (y, i, p) nz =
-      let h = g.first-closed y i (λ z. nz (sym p ∙ z)) in
+      let h = g.first_closed y i (λ z. nz (sym p ∙ z)) in
       (h.0, h.1, h.2 ∙ sym (tb.has y i).0 ∙ ap tb.par p)
 
   abbrev pub world : World
   world = record {
     Path = CodedPath;
     Fits = λ ls p. g.fits ls p ≡ true;
-    FitsAny = λ ls p. g.fits-any ls p ≡ true;
+    FitsAny = λ ls p. g.fits_any ls p ≡ true;
     opens = g.opens;
     First = Has (λ y. In y g.first);
-    first_root = g.first-root;
+    first_root = g.first_root;
     base = g.base;
-    first_low = λ x h. subst (λ n. n < g.base * 65536) h.2 (g.first-low h.0 h.1);
+    first_low = λ x h. subst (λ n. n < g.base * 65536) h.2 (g.first_low h.0 h.1);
     par = tb.par;
     lab = tb.lab;
     first_closed = first_up;
@@ -104,8 +104,8 @@ module _ (g : Ground) (tb : Table g) where
     accepts_ok k (rem t n) told h = (
       has_name T (Live world S) named noded closed n h.0,
       h.1,
-      λ x nz under-n l. let y = noded x l in
-          h.2 y.0 y.1 (λ z. nz (sym y.2 ∙ z)) (sym (named y.0 y.1).1.0 ∙ ap tb.par y.2 ∙ under-n),
+      λ x nz under_n l. let y = noded x l in
+          h.2 y.0 y.1 (λ z. nz (sym y.2 ∙ z)) (sym (named y.0 y.1).1.0 ∙ ap tb.par y.2 ∙ under_n),
     )
 
     pub ok_accepts : (k : ℕ) (e : Event CodedPath) → Ok world S k e → Accepts g T k e
@@ -214,7 +214,7 @@ module _ (g : Ground) (tb : Table g) where
 
   -- a name is new
   fresh : (es : List (Event CodedPath)) → Run world es → (t x : ℕ) → g.base ≤ t → suc (count t es) < 65536 → x ≡ t * 65536 + suc (count t es) → ¬ (Born world (λ d. In d es) x)
-  fresh es r t x one low eq (inl z) = let lo : x < g.base * 65536 = world.first-low x z in omega arith
+  fresh es r t x one low eq (inl z) = let lo : x < g.base * 65536 = world.first_low x z in omega arith
   fresh es r t x one low eq (inr (e, i, m)) =
       let h = numbered es r e x i m in
       let j = h.1 in
@@ -236,8 +236,8 @@ module _ (g : Ground) (tb : Table g) where
       more (inr (e, i, a)) = inr (e, inr i, a)
 
       old : ¬ ((e : Event CodedPath) × In e es × Takes e y.name) → ¬ ((e : Event CodedPath) × In e (ask t n p found ∷ es) × Takes e y.name)
-      old no-take (e, inl q, tk) = subst (λ c. Takes c y.name) q tk
-      old no-take (e, inr i, tk) = no-take (e, i, tk)
+      old no_take (e, inl q, tk) = subst (λ c. Takes c y.name) q tk
+      old no_take (e, inr i, tk) = no_take (e, i, tk)
   after_standing (add t n a x ∷ es) r y (inl q) =
       (inr (add t n a x, inl refl, q), λ k. gone k)
     where
@@ -251,8 +251,8 @@ module _ (g : Ground) (tb : Table g) where
       more (inr (e, i, ad)) = inr (e, inr i, ad)
 
       old : ¬ ((e : Event CodedPath) × In e es × Takes e y.name) → ¬ ((e : Event CodedPath) × In e (add t n a x ∷ es) × Takes e y.name)
-      old no-take (e, inl q, tk) = subst (λ c. Takes c y.name) q tk
-      old no-take (e, inr i, tk) = no-take (e, i, tk)
+      old no_take (e, inl q, tk) = subst (λ c. Takes c y.name) q tk
+      old no_take (e, inr i, tk) = no_take (e, i, tk)
   after_standing (rem t n ∷ es) r y (h, ne) = let s = after_standing es r.1 y h in (more s.0, λ k. old s.1 k)
     where
       more : Recorded g (λ d. In d es) y → Recorded g (λ d. In d (rem t n ∷ es)) y
@@ -260,8 +260,8 @@ module _ (g : Ground) (tb : Table g) where
       more (inr (e, i, ad)) = inr (e, inr i, ad)
 
       old : ¬ ((e : Event CodedPath) × In e es × Takes e y.name) → ¬ ((e : Event CodedPath) × In e (rem t n ∷ es) × Takes e y.name)
-      old no-take (e, inl q, tk) = ne (subst (λ c. Takes c y.name) q tk)
-      old no-take (e, inr i, tk) = no-take (e, i, tk)
+      old no_take (e, inl q, tk) = ne (subst (λ c. Takes c y.name) q tk)
+      old no_take (e, inr i, tk) = no_take (e, i, tk)
 
   pub standing_after : (es : List (Event CodedPath)) (y : Node) → Standing g (λ d. In d es) y → after g es y
   standing_after [] y (inl i, k) = i

@@ -16,7 +16,7 @@ use Rattle.model.specs.Refusals.{Rows}
 use Rattle.model.specs.Calls.{judge}
 use Rattle.model.specs.History.{Log, accepted, actor, block, past}
 use Rattle.model.proofs.Events.{In, Event, ask, add, rem, read, write, who, Makes, Takes, Shows, count, State, All}
-use Rattle.model.proofs.MixedRun.{Ground, Mix, state, Reach, Recorded}
+use Rattle.model.proofs.MixedRun.{Ground, Mix, Reach, Recorded}
 use Rattle.model.proofs.PlainRules.{act_of, ans_of, Neat}
 use Rattle.model.proofs.Replays.{history}
 use Rattle.model.proofs.Keys.{Up}

@@ -1,7 +1,7 @@
 -- An accepted action of the model is a turn of the mixed run: its ticket knows the node, and its rivals get arrows.
-use Rattle.std.proofs.Common.{◌≡◌, ℕ, ◌+◌, true, false, not, ◌&&◌, ◌||◌, eqb, ltb, ◌≢◌, ◌⊎◌, List, [], ◌∷◌, ◌++◌, map, length, is_some, Some, None, Option, sym, refl, ap, ◌∙◌, subst, inl, inr}
+use Rattle.std.proofs.Common.{◌≡◌, ℕ, true, false, not, ◌&&◌, ◌||◌, eqb, ltb, ◌≢◌, ◌⊎◌, List, [], ◌∷◌, ◌++◌, map, length, is_some, Some, None, Option, sym, refl, ap, ◌∙◌, subst, inl, inr}
 use native.Mathlib.Decide.{ℕ_discrete}
-use Rattle.std.proofs.lemmas.Bool.{true≢false, eqb-true, eqb-false, eq-eqb, ne_eqb, or_cases, or_left, or_right, and_parts, and_from, not-true, not_false, not_from_false, ltb-true, lt-ltb}
+use Rattle.std.proofs.lemmas.Bool.{true≢false, eqb-true, eqb-false, eq-eqb, ne_eqb, or_cases, or_left, or_right, and_parts, and_from, not-true, not-false, not_from_false, ltb-true, lt-ltb}
 use Rattle.words.specs.Words.{bit}
 use Rattle.path.specs.declared.coded.CodedPath.{CodedPath}
 use Rattle.tree.specs.Trees.{Depth, Node, actual, bare, live, nodes}
@@ -59,7 +59,7 @@ tree_way ys up leads n m ls b = go b
     go self = at_self ys up (length ys) n
     go (under {ls} y i nz c) = below_way ys up n y.name (ls ++ (y.label ∷ [])) (leads y i) (under y i nz c)
 
-module _ (g : Ground) (gf : g.fits ≡ fits) (ga : g.fits-any ≡ fits_any) (h : Log) (m : Model) (nx : ℕ) (ti : Tied g h m nx) where
+module _ (g : Ground) (gf : g.fits ≡ fits) (ga : g.fits_any ≡ fits_any) (h : Log) (m : Model) (nx : ℕ) (ti : Tied g h m nx) where
   abbrev S : State CodedPath
   S = st h m
 
@@ -88,7 +88,7 @@ module _ (g : Ground) (gf : g.fits ≡ fits) (ga : g.fits-any ≡ fits_any) (h :
           side : Dec (r.mark ≡ 0) → In y (actual m.records)
           side (yes z) = subst (λ v. In v (actual m.records)) (sym e) (map_to bare (keep live m.records) r (keep_to live m.records r i (eq-eqb r.mark 0 z)))
           side (no nz) =
-              let q = bk.mark-by r i nz in
+              let q = bk.mark_by r i nz in
               absurd (k (q.1, inr (r.mark, q.0, q.2), subst (Takes q.1) (sym (ap (λ (v : Node). v.name) e)) q.3))
 
   pub actual_standing : (y : Node) → In y (actual m.records) → Standing g (All S) y
@@ -141,15 +141,15 @@ module _ (g : Ground) (gf : g.fits ≡ fits) (ga : g.fits-any ≡ fits_any) (h :
       go None e un mk = absurd (true≢false un)
       go (Some r) e un mk =
           let q = look_in m.records n r e in
-          let lv : live r ≡ true = not_false (live r) mk in
+          let lv : live r ≡ true = not-false (live r) mk in
           let st : In (bare r) (actual m.records) = map_to bare (keep live m.records) r (keep_to live m.records r q.0 lv) in
-          (r, e, q.0, q.1, eqb-true r.mark 0 lv, kn (or_cases (eqb n 0) (bit r.note (place_of m t)) (not_false (eqb n 0 || bit r.note (place_of m t)) un)), (bare r, actual_standing (bare r) st, q.1))
+          (r, e, q.0, q.1, eqb-true r.mark 0 lv, kn (or_cases (eqb n 0) (bit r.note (place_of m t)) (not-false (eqb n 0 || bit r.note (place_of m t)) un)), (bare r, actual_standing (bare r) st, q.1))
         where
           kn : (eqb n 0 ≡ true) ⊎ (bit r.note (place_of m t) ≡ true) → Knows (S.block t) n
           kn (inl z) = inl (eqb-true n 0 z)
           kn (inr noted) =
               let q = look_in m.records n r e in
-              let k = bk.note-known r q.0 (place_of m t) noted (λ z. t0 (sym seat ∙ z)) in
+              let k = bk.note_known r q.0 (place_of m t) noted (λ z. t0 (sym seat ∙ z)) in
               inr (k.0, subst (λ u. In k.0 (S.block u)) seat k.1, subst (λ v. Makes k.0 v ⊎ Shows k.0 v) q.1 k.2)
 
   -- ── conflicts ──
@@ -249,7 +249,7 @@ module _ (g : Ground) (gf : g.fits ≡ fits) (ga : g.fits-any ≡ fits_any) (h :
             inr (
               sym ev ∙ ap m.tickets jp ∙ seat ∙ sym we,
               (λ z. r.0 (eu ∙ z), i, eu),
-              λ z. r.1 (sts.place-one i p (eu ∙ z ∙ we ∙ sym seat) r.0),
+              λ z. r.1 (sts.place_one i p (eu ∙ z ∙ we ∙ sym seat) r.0),
             )
 
     pub turn : Knows (S.block (actor b)) (node (event_of b a)) → Accepts g (Standing g (All S)) (count (who (event_of b a)) (S.block (who (event_of b a)))) (event_of b a) → TakesTurn g (mix h m nx) (event_of b a) (mix h' m' nx)

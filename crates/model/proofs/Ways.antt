@@ -164,9 +164,9 @@ module _ (ys : List Node) (up : Rising ys) where
       go : {m c : ℕ} → Dec (y.name ≡ n) → Depth ys m c → y.name ≡ m → c ≤ suc k → ((e : ℕ) → Depth ys y.parent e → e ≤ k → way_from k ys n y.parent ≡ Some ls) → way_from (suc k) ys n y.name ≡ Some all
       go same top p cl ih = absurd (nz p)
       go (yes s) (down {d = c} z j mz q) p cl ih =
-          let dp-y : Depth ys y.name (suc c) = subst (λ v. Depth ys v (suc c)) (sym p) (down z j mz q) in
-          let r = below_depth n (under y i nz b) (suc c) dp-y in
-          let eq : suc c ≡ r.0 = depth_one dp-y r.1 s in
+          let dp_y : Depth ys y.name (suc c) = subst (λ v. Depth ys v (suc c)) (sym p) (down z j mz q) in
+          let r = below_depth n (under y i nz b) (suc c) dp_y in
+          let eq : suc c ≡ r.0 = depth_one dp_y r.1 s in
           let ln = r.2 in
           let none_left : length all ≡ 0 = omega arith in
           subst (λ x. way_from (suc k) ys n x ≡ Some all) (sym s) (at_self (suc k) n ∙ ap Some (nothing all none_left))

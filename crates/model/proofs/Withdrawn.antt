@@ -24,7 +24,7 @@ use Rattle.model.proofs.Finished.{freed_off, kept_on, freed_arrow, kept_arrow, o
 use Rattle.model.proofs.Lists.{map_length, keep_length}
 use Rattle.model.proofs.Tables.{adds_makes}
 
-module _ (g : Ground) (gf : g.fits ≡ fits) (ga : g.fits-any ≡ fits_any) (h : Log) (m : Model) (nx : ℕ) (ti : Tied g h m nx) (room t : ℕ) (op : not_open m t ≡ false) where
+module _ (g : Ground) (gf : g.fits ≡ fits) (ga : g.fits_any ≡ fits_any) (h : Log) (m : Model) (nx : ℕ) (ti : Tied g h m nx) (room t : ℕ) (op : not_open m t ≡ false) where
   abbrev S : State CodedPath
   S = st h m
 
@@ -62,10 +62,10 @@ module _ (g : Ground) (gf : g.fits ≡ fits) (ga : g.fits-any ≡ fits_any) (h :
   t≢0 = (seat_of m t op).0
 
   taken : (i : ℕ) → In i ps → m.tickets i ≢ 0
-  taken = reached_all m.arrows (λ i. m.tickets i ≢ 0) (λ i j was x. (sts.arrow-ends i j x).1) p (λ z. t≢0 (sym seat_t ∙ z))
+  taken = reached_all m.arrows (λ i. m.tickets i ≢ 0) (λ i j was x. (sts.arrow_ends i j x).1) p (λ z. t≢0 (sym seat_t ∙ z))
 
   closed : (i j : ℕ) → In i ps → m.arrows i j ≡ true → In j ps
-  closed i j k x = reached_closed m.arrows p (seat_of m t op).2 i j k x (sts.place-low j (sts.arrow-ends i j x).1)
+  closed i j k x = reached_closed m.arrows p (seat_of m t op).2 i j k x (sts.place_low j (sts.arrow_ends i j x).1)
 
   -- a withdrawn ticket sits at a place that is reached
   falls : (u : ℕ) → In u ws → (i : ℕ) × In i ps × (m.tickets i ≡ u)
@@ -75,11 +75,11 @@ module _ (g : Ground) (gf : g.fits ≡ fits) (ga : g.fits-any ≡ fits_any) (h :
   falls_to u i k e = sorted_to (map m.tickets ps) u (subst (λ v. In v (map m.tickets ps)) e (map_to m.tickets ps i k))
 
   at_fallen : (u i : ℕ) → u ≢ 0 → m.tickets i ≡ u → In u ws → In i ps
-  at_fallen u i u0 e k = let q = falls u k in subst (λ v. In v ps) (sts.place-one q.0 i (q.2 ∙ sym e) (taken q.0 q.1)) q.1
+  at_fallen u i u0 e k = let q = falls u k in subst (λ v. In v ps) (sts.place_one q.0 i (q.2 ∙ sym e) (taken q.0 q.1)) q.1
 
   wd : Withdraws S ws Sw
   wd = record {
-    closed = λ u v x k. let q = sts.arrow-ends x.0 x.1 x.4 in
+    closed = λ u v x k. let q = sts.arrow_ends x.0 x.1 x.4 in
         falls_to v x.1 (closed x.0 x.1 (at_fallen u x.0 (λ z. q.0 (x.2 ∙ z)) x.2 k) x.4) x.3;
     same_fin = refl;
     others = λ u ne. refl;
@@ -92,7 +92,7 @@ module _ (g : Ground) (gf : g.fits ≡ fits) (ga : g.fits-any ≡ fits_any) (h :
     arrow_only = λ u v x.
         let q = freed_arrow g gf ga h m nx ti ps (undone m t) 0 x.0 x.1 x.4 in
         let ei = sym (kept_on g gf ga h m nx ti ps (undone m t) 0 x.0 q.1).0 ∙ x.2 in
-        let ends = sts.arrow-ends x.0 x.1 q.0 in
+        let ends = sts.arrow_ends x.0 x.1 q.0 in
         ((x.0, x.1, ei, sym (kept_on g gf ga h m nx ti ps (undone m t) 0 x.1 q.2).0 ∙ x.3, q.0), λ k. q.1 (at_fallen u x.0 (λ z. ends.0 (ei ∙ z)) ei k));
   }
 
@@ -107,7 +107,7 @@ module _ (g : Ground) (gf : g.fits ≡ fits) (ga : g.fits-any ≡ fits_any) (h :
 
   all_from : (d : Event CodedPath) → All Sw d → All S d
   all_from d (inl i) = inl i
-  all_from d (inr (u, o, i)) = inr (u, (wd.open-from u o).0, i)
+  all_from d (inr (u, o, i)) = inr (u, (wd.open_from u o).0, i)
 
   abbrev unmark : Record → Record
   unmark r = cond (member r.mark (fallen m t)) (with_mark r 0) r
@@ -161,7 +161,7 @@ module _ (g : Ground) (gf : g.fits ≡ fits) (ga : g.fits-any ≡ fits_any) (h :
   rec_to : (y : Node) → ¬ (In (y.name / 65536) ws) → Recorded g (All S) y → Recorded g (All Sw) y
   rec_to y out (inl i) = inl i
   rec_to y out (inr (d, inl i, ad)) = inr (d, inl i, ad)
-  rec_to y out (inr (d, inr (u, o, i), ad)) = inr (d, inr (u, wd.open-to u o (λ k. out (subst (λ v. In v ws) (sym same) k)), i), ad)
+  rec_to y out (inr (d, inr (u, o, i), ad)) = inr (d, inr (u, wd.open_to u o (λ k. out (subst (λ v. In v ws) (sym same) k)), i), ad)
     where
       same : y.name / 65536 ≡ u
       same =
@@ -177,8 +177,8 @@ module _ (g : Ground) (gf : g.fits ≡ fits) (ga : g.fits-any ≡ fits_any) (h :
     where
       go : Recorded g (All Sw) y → (i : ℕ) × In i ps × (m.tickets i ≡ y.name / 65536) → ⊥
       go (inl f) (i, j, e) =
-          let a = g.first-low y f in
-          let b : g.base ≤ y.name / 65536 = subst (λ v. g.base ≤ v) e (sts.first-low i (taken i j)) in
+          let a = g.first_low y f in
+          let b : g.base ≤ y.name / 65536 = subst (λ v. g.base ≤ v) e (sts.first_low i (taken i j)) in
           omega arith
       go (inr (d, al, ad)) (i, j, e) = by al
         where
@@ -191,7 +191,7 @@ module _ (g : Ground) (gf : g.fits ≡ fits) (ga : g.fits-any ≡ fits_any) (h :
           by : All Sw d → ⊥
           by (inl f) = reach_past g (mix h m nx) ti.reach d f ((λ z. taken i j (e ∙ same ∙ z)), i, e ∙ same)
           by (inr (u, o, f)) =
-              let w = wd.open-from u o in
+              let w = wd.open_from u o in
               w.1 (subst (λ v. In v ws) (same ∙ reach_mine g (mix h m nx) ti.reach u d w.0 f) k)
 
   froms : (r : Record) → In r mw.records → Recorded g (All Sw) (bare r) × ¬ ((d : Event CodedPath) × In d S.fin × Takes d r.name)
@@ -236,13 +236,13 @@ module _ (g : Ground) (gf : g.fits ≡ fits) (ga : g.fits-any ≡ fits_any) (h :
     from = froms;
     to = tos;
     listed = λ y i. more_w y (bk.listed y (filed y i));
-    gone_listed = λ d i x tk. let q = bk.gone-listed d i x tk in (q.0, more_w q.0 q.1, q.2);
+    gone_listed = λ d i x tk. let q = bk.gone_listed d i x tk in (q.0, more_w q.0 q.1, q.2);
     mark_of = λ r i u d o j tk. mark_of r (was r i) u d o j tk;
     mark_by = λ r i nz. mark_by r (was r i) nz;
     note_known = λ r i j noted nz. let q = was r i in
         let b = and_parts (bit q.0.note j) (not (member j ps)) (and_parts (ltb j 32) (bit q.0.note j && not (member j ps)) (sym (un_note q.0 j) ∙ ap (λ (v : Record). bit v.note j) (sym q.3) ∙ noted)).1 in
         let o = freed_off g gf ga h m nx ti ps (undone m t) 0 j nz in
-        let w = bk.note-known q.0 q.1 j b.0 o.2 in
+        let w = bk.note_known q.0 q.1 j b.0 o.2 in
         (w.0, subst (λ v. In w.0 (S.block v)) (sym o.1) w.1, subst (λ v. Makes w.0 v ⊎ Shows w.0 v) (sym (name_was r q.0 q.3)) w.2);
     note_free = λ r i j lt z. note_free r (was r i) j lt z (cases_Bool (member j ps));
   }
@@ -252,7 +252,7 @@ module _ (g : Ground) (gf : g.fits ≡ fits) (ga : g.fits-any ≡ fits_any) (h :
 
       mark_of : (r : Record) → Was r → (u : ℕ) (d : Event CodedPath) → Sw.Open u → In d (S.block u) → Takes d r.name → r.mark ≡ u
       mark_of r (r0, i, out, e) u d o j tk =
-          let w = wd.open-from u o in
+          let w = wd.open_from u o in
           let k : r0.mark ≡ u = bk.mark_of r0 i u d w.0 j (subst (Takes d) (name_was r r0 e) tk) in
           ap (λ (v : Record). v.mark) e ∙ elim (un_mark r0) [
             | inl q ↦ absurd (w.1 (subst (λ v. In v ws) k (member_in r0.mark ws q.0)))
@@ -269,15 +269,15 @@ module _ (g : Ground) (gf : g.fits ≡ fits) (ga : g.fits-any ≡ fits_any) (h :
           go (inl q) = absurd (nz (me ∙ q.1))
           go (inr q) =
               let same : r.mark ≡ r0.mark = me ∙ q.1 in
-              let w = bk.mark-by r0 i (λ z. nz (same ∙ z)) in
-              (subst Sw.Open (sym same) (wd.open-to r0.mark w.0 (not_member r0.mark ws q.0)), w.1, subst (λ v. In w.1 (S.block v)) (sym same) w.2, subst (Takes w.1) (sym (name_was r r0 e)) w.3)
+              let w = bk.mark_by r0 i (λ z. nz (same ∙ z)) in
+              (subst Sw.Open (sym same) (wd.open_to r0.mark w.0 (not_member r0.mark ws q.0)), w.1, subst (λ v. In w.1 (S.block v)) (sym same) w.2, subst (Takes w.1) (sym (name_was r r0 e)) w.3)
 
       note_free : (r : Record) → Was r → (j : ℕ) → j < 32 → mw.tickets j ≡ 0 → (member j ps ≡ true) ⊎ (member j ps ≡ false) → bit r.note j ≡ false
       note_free r (r0, i, out, e) j lt z w = ap (λ (v : Record). bit v.note j) e ∙ un_note r0 j ∙ and_right (ltb j 32) (bit r0.note j && not (member j ps)) (off w)
         where
           off : (member j ps ≡ true) ⊎ (member j ps ≡ false) → (bit r0.note j && not (member j ps)) ≡ false
           off (inl b) = and_right (bit r0.note j) (not (member j ps)) (not_from_true (member j ps) b)
-          off (inr b) = and_left (bit r0.note j) (not (member j ps)) (bk.note-free r0 i j lt (sym (kept_on g gf ga h m nx ti ps (undone m t) 0 j (not_member j ps b)).0 ∙ z))
+          off (inr b) = and_left (bit r0.note j) (not (member j ps)) (bk.note_free r0 i j lt (sym (kept_on g gf ga h m nx ti ps (undone m t) 0 j (not_member j ps b)).0 ∙ z))
 
   pub withdrawn_tied : Tied g hw mw nx
   withdrawn_tied = record {
@@ -289,7 +289,7 @@ module _ (g : Ground) (gf : g.fits ≡ fits) (ga : g.fits-any ≡ fits_any) (h :
     base = ti.base;
     room = (let a = keep_length kp R in let b = map_length (forgets ps) (undone m t) in let d = map_length unmark (keep kp R) in let c = ti.room.0 in omega arith, ti.room.1);
     told = ti.told;
-    told_past = ti.told-past;
+    told_past = ti.told_past;
     new = ti.new;
-    past_low = ti.past-low;
+    past_low = ti.past_low;
   }

@@ -9,7 +9,7 @@
 --     answers us           the answers that the turns us get
 --     Computes us xs       they are xs, and at their end the arrangement that order writes agrees
 --     Examples             both runs do so, and the store of their making keeps the store meaning
-use Rattle.std.specs.Prelude.{◌≡◌, ℕ, true, false, List, [], ◌∷◌, map, refl}
+use Rattle.std.specs.Prelude.{◌≡◌, ℕ, false, List, [], ◌∷◌, map, refl}
 use Rattle.std.proofs.Common.{zero-le, suc-le-suc}
 use Rattle.path.specs.declared.step.Step.{Step}
 use Rattle.path.specs.declared.step.Test.TheVariants.{Star, Name}

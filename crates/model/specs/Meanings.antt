@@ -1,17 +1,17 @@
 -- What the computing definitions mean, each against a relation in the subject's words. Assumes nothing.
---     Exactly b P          the test b says whether P holds
---     Descends ys n m ls   n is m or an ancestor of m, and ls are the labels below n down to m
+--     Exactly b P         the test b says whether P holds
+--     Descends ys n m ls  n is m or an ancestor of m, and ls are the labels below n down to m
 --     FitExact            fits and fits_any are membership in the language of the path
 --     WayExact            way finds exactly the descents
 --     ConflictExact       a read lock (n, p) conflicts with a write lock (m, f) exactly if there is a descent from n to m whose labels,
---                          followed by f, are in the language of p; for any, by some last label. Two locks of a kind never conflict
---     Leads arrow i j      arrows lead from i to j, none or more
---     Ring arrow i         a round trip along arrows goes through i
+--                         followed by f, are in the language of p; for any, by some last label. Two locks of a kind never conflict
+--     Leads arrow i j     arrows lead from i to j, none or more
+--     Ring arrow i        a round trip along arrows goes through i
 --     ReachExact          reached finds exactly the places that arrows lead to
 --     RingExact           after every history there is no ring, and an action is refused with 11, or before, exactly if its arrows
---                          would close one; a refusal with 11 says so
+--                         would close one; a refusal with 11 says so
 --     WithdrawExact       a withdrawal takes exactly the open tickets that arrows lead to from its own
---     Orders arrow ts os   os is ts in this order: repeatedly the least one that no remaining one has an arrow to
+--     Orders arrow ts os  os is ts in this order: repeatedly the least one that no remaining one has an arrow to
 --     OrderExact          order writes the open tickets so
 use Rattle.std.specs.Prelude.{◌≡◌, ℕ, ◌<◌, ◌≤◌, Bool, true, false, not, ◌≢◌, List, [], ◌∷◌, ◌++◌, Some, None, ◌==◌}
 use Rattle.path.specs.declared.coded.CodedPath.{CodedPath}

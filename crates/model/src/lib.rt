@@ -1,4 +1,6 @@
 // The model of the scheduler, and the law of its two runs. Each function here stands for the law that its contract states.
+#![tactic(auto)]
+
 ghost use Rattle.model.specs.Law.{Agreement, Lasting, Whole};
 ghost use Rattle.model.specs.Health.{Health, Alike};
 ghost use Rattle.model.specs.Meanings.{FitExact, WayExact, ConflictExact, ReachExact, RingExact, WithdrawExact, OrderExact};
