@@ -1,8 +1,8 @@
 -- Sets of places as lists and as words, and how they grow along arrows.
 -- Assumes nothing.
-use Rattle.std.proofs.Common.{◌≡◌, ℕ, zero, suc, ◌+◌, ◌-◌, ◌%◌, ◌^◌, ◌<◌, ◌≤◌, Bool, true, false, cond, not, ◌&&◌, ◌||◌, eqb, ltb, ◌⊎◌, List, [], ◌∷◌, ◌++◌, sym, refl, ap, ◌∙◌, inl, inr, ⊎_elim, append_nil, zero-add, add-one, arith}
+use Rattle.std.proofs.Common.{◌≡◌, ℕ, zero, suc, ◌+◌, ◌-◌, ◌<◌, ◌≤◌, Bool, true, false, cond, not, ◌&&◌, ◌||◌, eqb, ltb, List, [], ◌∷◌, ◌++◌, sym, refl, ap, ◌∙◌, inl, ⊎_elim, append-nil, arith}
 use lib.Bits.{bit_and, and_le_r}
-use Rattle.std.proofs.lemmas.Bool.{and_parts, and_from, cases_Bool, eq-eqb, ne_eqb, eqb-false, ltb-true, lt-ltb, true≢false, not-true, not_from_false}
+use Rattle.std.proofs.lemmas.Bool.{and_parts, and_from, ne_eqb, eqb-false, ltb-true, lt-ltb, true≢false, not-true, not_from_false}
 use Rattle.std.proofs.lemmas.Bool.Decides.{nat_tests}
 use Rattle.words.specs.Words.{bit}
 use Rattle.words.proofs.Bits.{bit-and, bit_none, zero_or_bit}
@@ -106,7 +106,7 @@ module _ (arrow : ℕ → ℕ → Bool) where
 
   -- where nothing comes to it, a set stays
   pub still : (ps : List ℕ) → ((q : ℕ) → member q (wider arrow ps) ≡ member q ps) → wider arrow ps ≡ ps
-  still ps h = ap (λ (zs : List ℕ). ps ++ zs) (none_kept (λ i. not (member i ps) && some_of (λ j. arrow j i) ps) places none) ∙ append_nil ps
+  still ps h = ap (λ (zs : List ℕ). ps ++ zs) (none_kept (λ i. not (member i ps) && some_of (λ j. arrow j i) ps) places none) ∙ append-nil ps
     where
       none : (q : ℕ) → member q (keep (λ i. not (member i ps) && some_of (λ j. arrow j i) ps) places) ≡ false
       none q =

@@ -1,2 +1,4 @@
 // Arrows between places.
+#![tactic(auto)]
+
 pub mod arrows;

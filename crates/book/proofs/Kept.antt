@@ -1,6 +1,6 @@
 -- Rows of which one after another is kept or left out.
 -- Assumes nothing.
-use Rattle.std.proofs.Common.{◌≡◌, ℕ, ◌+◌, ◌<◌, ◌≤◌, Bool, true, false, cond, List, [], ◌∷◌, ◌++◌, map, length, get_or, take, drop, set, sym, refl, ap, ◌∙◌, append_assoc, append_nil, add-zero, add-one, arith, length-set, get_or-drop, take_all, drop-cons, take-suc-set, drop-set-lt}
+use Rattle.std.proofs.Common.{◌≡◌, ℕ, ◌+◌, ◌<◌, ◌≤◌, Bool, true, false, cond, List, [], ◌∷◌, ◌++◌, map, length, get_or, take, drop, set, sym, refl, ap, ◌∙◌, append_assoc, append-nil, add-zero, add-one, arith, length-set, get_or-drop, take_all, drop-cons, take-suc-set, drop-set-lt}
 use Rattle.std.proofs.lemmas.List.{take_more}
 use Rattle.tree.specs.Lists.{keep}
 
@@ -47,7 +47,7 @@ module _ {A : Type 0} (f : A → Bool) (first : List A) where
       let g = same_item xs i x b h in (
         n,
         omega arith,
-        a ∙ sym (ap (keep f) (take_more first i x (omega arith) ∙ ap (λ (y : A). take i first ++ (y ∷ [])) (sym g)) ∙ (keep_last (take i first) x ∙ (ap (λ (c : Bool). keep f (take i first) ++ cond c (x ∷ []) []) t ∙ append_nil _))),
+        a ∙ sym (ap (keep f) (take_more first i x (omega arith) ∙ ap (λ (y : A). take i first ++ (y ∷ [])) (sym g)) ∙ (keep_last (take i first) x ∙ (ap (λ (c : Bool). keep f (take i first) ++ cond c (x ∷ []) []) t ∙ append-nil _))),
         drop_on xs i x lt (omega arith) b,
       )
 

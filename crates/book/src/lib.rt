@@ -1,3 +1,5 @@
 // The lock book.
+#![tactic(auto)]
+
 pub mod book;
 pub mod lock;

@@ -1,9 +1,9 @@
 -- Where what is left is a tree, the children of what is chosen are chosen.
-use Rattle.std.proofs.Common.{◌≡◌, ℕ, suc, Bool, true, false, not, ◌&&◌, eqb, ◌≢◌, ◌⊎◌, List, [], ◌∷◌, map, sym, refl, ap, ◌∙◌, subst, inl, inr, ⊎_elim}
+use Rattle.std.proofs.Common.{◌≡◌, ℕ, Bool, true, false, not, eqb, ◌≢◌, List, [], ◌∷◌, map, sym, refl, ap, ◌∙◌, subst, ⊎_elim}
 use Rattle.std.proofs.lemmas.Bool.{true≢false, both_ways, cases_Bool, and_parts, eqb-true, eq-eqb}
 use Rattle.tree.specs.declared.record.Record.{Record}
-use Rattle.tree.specs.Lists.{In, keep}
-use Rattle.tree.specs.Records.{rises, child_of}
+use Rattle.tree.specs.Lists.{In}
+use Rattle.tree.specs.Records.{rises}
 use Rattle.tree.specs.Trees.{Node, node_of, Depth, top, down, bare, nodes, IsTree}
 use Rattle.tree.proofs.Members.{keep_from, keep_to, map_to, map_from}
 use Rattle.tree.proofs.Rising.{rises_distinct}

@@ -1,10 +1,10 @@
 -- Dropping what is chosen, leaf by leaf.
-use Rattle.std.proofs.Common.{◌≡◌, ℕ, suc, ◌<◌, ◌≤◌, Bool, true, false, cond, not, ◌&&◌, ◌||◌, eqb, leb, ◌⊎◌, List, [], ◌∷◌, length, is_some, is_ok, Some, None, Option, sym, refl, ap, ◌∙◌, subst, inl, inr, ⊎_elim, arith}
+use Rattle.std.proofs.Common.{◌≡◌, ℕ, ◌<◌, ◌≤◌, Bool, true, false, cond, not, ◌&&◌, ◌||◌, eqb, List, [], ◌∷◌, length, is_some, is_ok, Some, None, Option, sym, refl, ap, ◌∙◌, subst, inl, inr, ⊎_elim, arith}
 use mathlib.Core.Bool.{Bool-set}
 use mathlib.Core.Logic.{∥∥₁_elim}
 use Rattle.std.proofs.lemmas.Bool.{true≢false, both_ways, cases_Bool, and_parts, leb-true, leb-false, eqb-true}
 use Rattle.tree.specs.declared.record.Record.{Record}
-use Rattle.tree.specs.Lists.{In, keep, some_of}
+use Rattle.tree.specs.Lists.{In, some_of}
 use Rattle.tree.specs.Records.{over, rises, look, has, is_parent, without}
 use Rattle.tree.specs.Trees.{nodes, IsTree}
 use Rattle.tree.specs.Calls.{answer_of, may_discard}

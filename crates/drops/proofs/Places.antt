@@ -1,5 +1,5 @@
 -- The places of one word without those of another.
-use Rattle.std.proofs.Common.{◌≡◌, ℕ, zero, suc, ◌+◌, ◌-◌, ◌*◌, ◌/◌, ◌%◌, ◌^◌, ◌<◌, ◌≤◌, min, Bool, true, false, not, ◌&&◌, eqb, ltb, List, sym, refl, ap, ◌∙◌, ⊎_elim, zero-add, add-one, one-add, arith}
+use Rattle.std.proofs.Common.{◌≡◌, ℕ, zero, suc, ◌+◌, ◌-◌, ◌*◌, ◌/◌, ◌%◌, ◌^◌, ◌<◌, ◌≤◌, min, Bool, not, ◌&&◌, ltb, List, sym, ap, ◌∙◌, ⊎_elim, zero-add, add-one, one-add, arith}
 use mathlib.Core.Path.{fun_ext}
 use lib.Bits.{bit_and, and_step, and_shr}
 use Rattle.std.proofs.lemmas.Nat.{pow-add, shr-shr}

@@ -1,4 +1,6 @@
 // Dropping records from a store of any kind, and clearing their tags.
+#![tactic(auto)]
+
 pub mod doomed;
 pub mod forget;
 pub mod passes;

@@ -1,5 +1,5 @@
 -- A climb from a node towards one above it, record by record.
-use Rattle.std.proofs.Common.{◌≡◌, ℕ, zero, suc, ◌+◌, ◌-◌, ◌<◌, ◌≤◌, Bool, true, false, cond, ◌||◌, eqb, ◌≢◌, ◌⊎◌, List, [], ◌∷◌, ◌++◌, length, Some, None, Option, sym, refl, ap, ◌∙◌, subst, inl, inr, ⊎_elim, append_assoc, append_nil, arith}
+use Rattle.std.proofs.Common.{◌≡◌, ℕ, zero, suc, ◌≤◌, Bool, true, false, cond, ◌||◌, eqb, ◌≢◌, List, [], ◌∷◌, ◌++◌, length, Some, None, Option, sym, refl, ap, ◌∙◌, subst, ⊎_elim, append_assoc, append-nil, arith}
 use mathlib.Core.Bool.{Bool-set}
 use mathlib.Core.Logic.{∥∥₁_elim}
 use lib.ListN.{length-map}
@@ -95,7 +95,7 @@ Climbing all rs p e ls n m k node w =
 
 and_nothing : (o : Option (List ℕ)) → o ≡ and_then o []
 and_nothing None = refl
-and_nothing (Some ls) = ap Some (sym (append_nil ls))
+and_nothing (Some ls) = ap Some (sym (append-nil ls))
 
 longer_then : (o : Option (List ℕ)) (a : ℕ) (ls : List ℕ) → and_then (longer o a) ls ≡ and_then o (a ∷ ls)
 longer_then None a ls = refl
@@ -161,11 +161,11 @@ module _ (all : Bool) (rs : List Record) (p : CodedPath) (e : Ending) (ls : List
 -- ── the three endings ──
 pub query_ends : (o : Option (List ℕ)) (p : CodedPath) → fits_then o Closed p [] ≡ rules.fitting o p
 query_ends None p = refl
-query_ends (Some ls) p = ap (fitting.fits eqb Closed (code_steps p)) (append_nil ls)
+query_ends (Some ls) p = ap (fitting.fits eqb Closed (code_steps p)) (append-nil ls)
 
 pub any_ends : (o : Option (List ℕ)) (p : CodedPath) → fits_then o Open p [] ≡ fits_way o None p
 any_ends None p = refl
-any_ends (Some ls) p = ap (fitting.fits eqb Open (code_steps p)) (append_nil ls)
+any_ends (Some ls) p = ap (fitting.fits eqb Open (code_steps p)) (append-nil ls)
 
 pub label_ends : (o : Option (List ℕ)) (a : ℕ) (p : CodedPath) → fits_then o Closed p (a ∷ []) ≡ fits_way o (Some a) p
 label_ends None a p = refl

@@ -1,5 +1,5 @@
 -- A way takes no more steps than there are nodes in the tree that it goes through, where this is part of a tree.
-use Rattle.std.proofs.Common.{◌≡◌, ℕ, zero, suc, ◌≤◌, Bool, true, cond, eqb, ◌≢◌, List, [], ◌∷◌, map, length, Some, None, Option, sym, refl, ap, ◌∙◌, subst, inl, inr, arith}
+use Rattle.std.proofs.Common.{◌≡◌, ℕ, zero, suc, ◌≤◌, cond, eqb, ◌≢◌, List, [], ◌∷◌, map, length, Some, None, Option, sym, refl, ap, ◌∙◌, subst, inl, inr, arith}
 use lib.ListN.{length-map}
 use Rattle.std.proofs.lemmas.Bool.{cond-false, ne_eqb}
 use Rattle.tree.specs.Lists.{In}
@@ -38,7 +38,7 @@ module _ (ys zs : List Node) (part : (y : Node) → In y ys → In y zs) (up : R
 
   climbs : {m d : ℕ} → Depth zs m d → Climb m d
   climbs top = record { met = []; apart = tt; there = λ c i. elim i [ ]; enough = λ k n h. stuck 0 (λ j n. refl) k n }
-  climbs (down {d} y i nz up-y) = go (find ys y.name) refl (climbs up-y)
+  climbs (down {d} y i nz up_y) = go (find ys y.name) refl (climbs up_y)
     where
       go : (o : Option Node) → find ys y.name ≡ o → Climb y.parent d → Climb y.name (suc d)
       go None f w = record {
@@ -53,9 +53,9 @@ module _ (ys zs : List Node) (part : (y : Node) → In y ys → In y zs) (up : R
           let par : z.parent ≡ y.parent = ap (λ (v : Node). v.parent) same in
           record {
             met = y.name ∷ w.met;
-            apart = ((λ j. let q = w.there y.name j in let e = q.1 in let le = q.3 in let s : suc d ≡ e = depth_one zs up (down y i nz up-y) q.2 refl in omega arith), w.apart);
+            apart = ((λ j. let q = w.there y.name j in let e = q.1 in let le = q.3 in let s : suc d ≡ e = depth_one zs up (down y i nz up_y) q.2 refl in omega arith), w.apart);
             there = λ c j. elim j [
-              | inl p ↦ (subst (λ (n : ℕ). In n Names) (r.1 ∙ sym p) (map_to (λ (v : Node). v.name) ys z r.0), suc d, subst (λ (n : ℕ). Depth zs n (suc d)) (sym p) (down y i nz up-y), omega arith)
+              | inl p ↦ (subst (λ (n : ℕ). In n Names) (r.1 ∙ sym p) (map_to (λ (v : Node). v.name) ys z r.0), suc d, subst (λ (n : ℕ). Depth zs n (suc d)) (sym p) (down y i nz up_y), omega arith)
               | inr l ↦ (let q = w.there c l in let le = q.3 in (q.0, q.1, q.2, omega arith))
             ];
             enough = more z f par w;

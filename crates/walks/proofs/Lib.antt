@@ -1,7 +1,7 @@
 pub mod Fuel
 pub mod Climbs
 pub mod Queries
-pub mod Hits
+pub mod FoundSoFar
 pub mod Overlaid
 pub mod Chosen
 pub mod Words

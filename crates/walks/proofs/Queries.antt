@@ -5,7 +5,7 @@ use Rattle.std.proofs.lemmas.Bool.{cases_Bool, cond-true, cond-false}
 use Rattle.path.specs.declared.coded.CodedPath.{CodedPath}
 use Rattle.tree.specs.declared.record.Record.{Record}
 use Rattle.tree.specs.Lists.{In, keep}
-use Rattle.tree.specs.Records.{rises, look}
+use Rattle.tree.specs.Records.{rises}
 use Rattle.tree.specs.Trees.{Node, bare, nodes, live, actual}
 use Rattle.tree.specs.Walk.{name_after, visited}
 use Rattle.tree.proofs.Members.{keep_length}

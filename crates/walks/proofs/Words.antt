@@ -1,7 +1,7 @@
 -- A word is known by its places.
 use Rattle.std.proofs.Common.{◌≡◌, ℕ, zero, suc, ◌+◌, ◌*◌, ◌/◌, ◌%◌, ◌^◌, ◌<◌, Bool, true, false, ◌&&◌, ◌||◌, eqb, ltb, sym, refl, ap, ◌∙◌, ⊎_elim, mod-eq_of_lt, one-add, arith}
 use lib.Bits.{bit_or}
-use Rattle.std.proofs.lemmas.Nat.{mod-pow-add, pow-add, pow_pos, pow_below}
+use Rattle.std.proofs.lemmas.Nat.{mod-pow-add, pow-add, pow_below}
 use Rattle.std.proofs.lemmas.Bool.{cases_eq, lt-ltb}
 use Rattle.std.proofs.lemmas.Bool.Decides.{nat_tests}
 use Rattle.words.specs.Words.{bit}

@@ -1,4 +1,6 @@
 // What a scheduler asks of a store of any kind, and what it does to it.
+#![tactic(auto)]
+
 pub mod choice;
 pub mod climb;
 pub mod fill;

@@ -1,5 +1,5 @@
 // Rows that come and go.
-ghost use Rattle.std.specs.Prelude.{◌≡◌, ◌+◌, ◌<◌, ◌≤◌, not, ◌&&◌, ltb, [], ◌++◌, map, length, if◌then◌else◌, vec_len, vec_capacity, nat_lt};
+ghost use Rattle.std.specs.Prelude.{◌≡◌, ◌+◌, ◌<◌, ◌≤◌, not, ◌&&◌, [], ◌++◌, map, length, if◌then◌else◌, vec_len, vec_capacity, nat_lt};
 ghost use Rattle.words.specs.Words.{bit};
 ghost use Rattle.tree.specs.Lists.{keep};
 ghost use Rattle.book.specs.Rows.{row_of, held_of, rows_for};
@@ -43,7 +43,7 @@ fn filter(rows: &mut Vec<LockRow>, places: u32)
 impl Book {
     // The ticket at `place` takes all the locks; none where it is no place or there are fewer free rows.
     pub fn grant(&mut self, place: usize, locks: &[Lock])
-        ensures { held_of self.new ≡ held_of self.old ++ (if ltb place 32 && not (nat_lt 256 (length (held_of self.old) + length locks.now)) then rows_for place locks.now else []) }
+        ensures { held_of self.new ≡ held_of self.old ++ (if nat_lt place 32 && not (nat_lt 256 (length (held_of self.old) + length locks.now)) then rows_for place locks.now else []) }
     {
         if place < 32 && self.has_room(locks.len()) {
             append(&mut self.rows, place, locks);

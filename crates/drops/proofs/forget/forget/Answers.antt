@@ -1,4 +1,4 @@
-use Rattle.std.proofs.Common.{◌≡◌, ℕ, List, map, Some, None, Option, sym, refl, ap, ◌∙◌}
+use Rattle.std.proofs.Common.{◌≡◌, List, map, Some, None, sym, refl, ap, ◌∙◌}
 use Rattle.tree.specs.declared.record.Record.{Record}
 use Rattle.tree.specs.Walk.{name_after}
 use Rattle.tree.proofs.Visits.{ahead_falls}
@@ -29,8 +29,8 @@ loop-name-preserved g c =
     let last = c.loop-name.last in
     let next : name_after last rs ≡ Some c.in-Some.name =
     sym (after_changed f (λ r. refl) last last rs) ∙ (sym (ap (name_after last) c.loop-name.invariant.0) ∙ (sym c.following.ensures.answer ∙ c.in-Some.is)) in (
-      c.forget-at.ensures.after ∙ (ap (λ (xs : List Record). changed_at c.in-Some.name f xs) c.loop-name.invariant.0 ∙ changed_step f (λ r. refl) last c.in-Some.name rs (g.met.S.Store.rising s) next),
-      c.forget-at.ensures.same ∙ c.loop-name.invariant.1,
+      c.forget_at.ensures.after ∙ (ap (λ (xs : List Record). changed_at c.in-Some.name f xs) c.loop-name.invariant.0 ∙ changed_step f (λ r. refl) last c.in-Some.name rs (g.met.S.Store.rising s) next),
+      c.forget_at.ensures.same ∙ c.loop-name.invariant.1,
     )
 
 pub returns : goal.returns
@@ -39,6 +39,6 @@ returns g c =
     let f = forgets_word c.args.places in
     let last = c.loop-name.last in
     let end : name_after last rs ≡ None =
-    sym (after_changed f (λ r. refl) last last rs) ∙ (sym (ap (name_after last) c.loop-name.invariant.0) ∙ (sym c.following.ensures.answer ∙ c.in-default.is)) in
+    sym (after_changed f (λ r. refl) last last rs) ∙ (sym (ap (name_after last) c.loop-name.invariant.0) ∙ (sym c.following.ensures.answer ∙ c.in_default.is)) in
     let all = c.loop-name.invariant.0 ∙ changed_all f (λ r. refl) last rs end in
     record { after = all; listed = λ ps h. all ∙ ap (λ (h : Record → Record). map h rs) (forgets_listed c.args.places ps h); same = c.loop-name.invariant.1 }

@@ -1,4 +1,4 @@
-use Rattle.std.proofs.Common.{◌≡◌, refl, ◌∙◌, arith}
+use Rattle.std.proofs.Common.{refl, ◌∙◌}
 use Rattle.drops.proofs.Dropping.{all_dropped}
 use Rattle.drops.proofs.passes.drop_all.Goals as goal
 
@@ -6,20 +6,20 @@ pub loop-init : goal.loop-init
 loop-init g c = (refl, (λ r i. i), refl)
 
 pub loop-smaller : goal.loop-smaller
-loop-smaller g c = c.drop-leaves.ensures.after.fewer c.loop-test.true
+loop-smaller g c = c.drop_leaves.ensures.after.fewer c.loop-test.true
 
 pub loop-preserved : goal.loop-preserved
 loop-preserved g c = (
-  c.drop-leaves.ensures.after.left ∙ c.loop.invariant.0,
-  (λ r i. c.loop.invariant.1 r (c.drop-leaves.ensures.after.from r i)),
-  c.drop-leaves.ensures.same ∙ c.loop.invariant.2,
+  c.drop_leaves.ensures.after.left ∙ c.loop.invariant.0,
+  (λ r i. c.loop.invariant.1 r (c.drop_leaves.ensures.after.from r i)),
+  c.drop_leaves.ensures.same ∙ c.loop.invariant.2,
 )
 
 pub returns : goal.returns
 returns g c =
-    let d = c.drop-leaves.ensures.after in
-    let t = c.drop-leaves.new.store in
+    let d = c.drop_leaves.ensures.after in
+    let t = c.drop_leaves.new.store in
     record {
       after = all_dropped (g.C.Choice.chosen c.args.choice.now) (g.S.Store.records c.args.store.now) (g.S.Store.records t) (g.met.S.Store.rising t) (g.met.S.Store.tree t) (d.left ∙ c.loop.invariant.0) (λ r i. c.loop.invariant.1 r (d.from r i)) (d.none c.loop-test.false);
-      same = c.drop-leaves.ensures.same ∙ c.loop.invariant.2;
+      same = c.drop_leaves.ensures.same ∙ c.loop.invariant.2;
     }

@@ -9,15 +9,15 @@ use Rattle.drops.proofs.passes.drop_leaves.Goals as goal
 pub loop-name-init : goal.loop-name-init
 loop-name-init g c = (dropping_begins (g.C.Choice.chosen c.args.choice.now) (g.S.Store.records c.args.store.now), refl)
 
-pub loop-name-smaller-then-drop-leaf : goal.loop-name-smaller-then-drop-leaf
-loop-name-smaller-then-drop-leaf g c =
+pub loop-name-smaller-then-drop_leaf : goal.loop-name-smaller-then-drop_leaf
+loop-name-smaller-then-drop_leaf g c =
     let t = c.loop-name.store in
     let ss = g.S.Store.records t in
     let k = c.in-Some.name in
     let falls = ahead_falls c.loop-name.last k ss (g.met.S.Store.rising t) (sym c.following.ensures.answer ∙ c.in-Some.is) in
-    let after = c.drop-leaf.ensures.after ∙ ap (λ (b : Bool). cond b (without k ss) ss) c.if-drop-leaf.true in
-    let same : length (ahead (Some k) (g.S.Store.records c.drop-leaf.new.store)) ≡ length (ahead (Some k) ss) = ap (λ (xs : List Record). length (ahead (Some k) xs)) after ∙ ap (length {A = Record}) (ahead_without k k ss (omega arith)) in
-    let less : length (ahead (Some k) (g.S.Store.records c.drop-leaf.new.store)) < length (ahead c.loop-name.last ss) = omega arith in
+    let after = c.drop_leaf.ensures.after ∙ ap (λ (b : Bool). cond b (without k ss) ss) c.if-drop_leaf.true in
+    let same : length (ahead (Some k) (g.S.Store.records c.drop_leaf.new.store)) ≡ length (ahead (Some k) ss) = ap (λ (xs : List Record). length (ahead (Some k) xs)) after ∙ ap (length {A = Record}) (ahead_without k k ss (omega arith)) in
+    let less : length (ahead (Some k) (g.S.Store.records c.drop_leaf.new.store)) < length (ahead c.loop-name.last ss) = omega arith in
     less
 
 pub loop-name-smaller : goal.loop-name-smaller
@@ -26,21 +26,21 @@ loop-name-smaller g c =
     let ss = g.S.Store.records t in
     let k = c.in-Some.name in
     let falls = ahead_falls c.loop-name.last k ss (g.met.S.Store.rising t) (sym c.following.ensures.answer ∙ c.in-Some.is) in
-    let after = c.drop-leaf.ensures.after ∙ ap (λ (b : Bool). cond b (without k ss) ss) c.if-drop-leaf.false in
-    let same : length (ahead (Some k) (g.S.Store.records c.drop-leaf.new.store)) ≡ length (ahead (Some k) ss) = ap (λ (xs : List Record). length (ahead (Some k) xs)) after in
-    let less : length (ahead (Some k) (g.S.Store.records c.drop-leaf.new.store)) < length (ahead c.loop-name.last ss) = omega arith in
+    let after = c.drop_leaf.ensures.after ∙ ap (λ (b : Bool). cond b (without k ss) ss) c.if-drop_leaf.false in
+    let same : length (ahead (Some k) (g.S.Store.records c.drop_leaf.new.store)) ≡ length (ahead (Some k) ss) = ap (λ (xs : List Record). length (ahead (Some k) xs)) after in
+    let less : length (ahead (Some k) (g.S.Store.records c.drop_leaf.new.store)) < length (ahead c.loop-name.last ss) = omega arith in
     less
 
-pub loop-name-preserved-then-drop-leaf : goal.loop-name-preserved-then-drop-leaf
-loop-name-preserved-then-drop-leaf g c =
+pub loop-name-preserved-then-drop_leaf : goal.loop-name-preserved-then-drop_leaf
+loop-name-preserved-then-drop_leaf g c =
     let f = g.C.Choice.chosen c.args.choice.now in
     let rs = g.S.Store.records c.args.store.now in
     let t = c.loop-name.store in
     let ss = g.S.Store.records t in
     let k = c.in-Some.name in
-    let after = c.drop-leaf.ensures.after ∙ ap (λ (b : Bool). cond b (without k ss) ss) c.if-drop-leaf.true in
-    let one = dropping_one f rs ss c.loop-name.last c.loop-name.any k (g.met.S.Store.rising t) (sym c.following.ensures.answer ∙ c.in-Some.is) c.loop-name.invariant.0 (sym c.drop-leaf.ensures.answer ∙ c.if-drop-leaf.true) in
-    (subst (λ (xs : List Record). Dropping f rs xs (Some k) true) (sym after) one, c.drop-leaf.ensures.same ∙ c.loop-name.invariant.1)
+    let after = c.drop_leaf.ensures.after ∙ ap (λ (b : Bool). cond b (without k ss) ss) c.if-drop_leaf.true in
+    let one = dropping_one f rs ss c.loop-name.last c.loop-name.any k (g.met.S.Store.rising t) (sym c.following.ensures.answer ∙ c.in-Some.is) c.loop-name.invariant.0 (sym c.drop_leaf.ensures.answer ∙ c.if-drop_leaf.true) in
+    (subst (λ (xs : List Record). Dropping f rs xs (Some k) true) (sym after) one, c.drop_leaf.ensures.same ∙ c.loop-name.invariant.1)
 
 pub loop-name-preserved : goal.loop-name-preserved
 loop-name-preserved g c =
@@ -49,15 +49,15 @@ loop-name-preserved g c =
     let t = c.loop-name.store in
     let ss = g.S.Store.records t in
     let k = c.in-Some.name in
-    let after = c.drop-leaf.ensures.after ∙ ap (λ (b : Bool). cond b (without k ss) ss) c.if-drop-leaf.false in
-    let none = dropping_none f rs ss c.loop-name.last c.loop-name.any k (g.met.S.Store.rising t) (sym c.following.ensures.answer ∙ c.in-Some.is) c.loop-name.invariant.0 (sym c.drop-leaf.ensures.answer ∙ c.if-drop-leaf.false) in
-    (subst (λ (xs : List Record). Dropping f rs xs (Some k) c.loop-name.any) (sym after) none, c.drop-leaf.ensures.same ∙ c.loop-name.invariant.1)
+    let after = c.drop_leaf.ensures.after ∙ ap (λ (b : Bool). cond b (without k ss) ss) c.if-drop_leaf.false in
+    let none = dropping_none f rs ss c.loop-name.last c.loop-name.any k (g.met.S.Store.rising t) (sym c.following.ensures.answer ∙ c.in-Some.is) c.loop-name.invariant.0 (sym c.drop_leaf.ensures.answer ∙ c.if-drop_leaf.false) in
+    (subst (λ (xs : List Record). Dropping f rs xs (Some k) c.loop-name.any) (sym after) none, c.drop_leaf.ensures.same ∙ c.loop-name.invariant.1)
 
 pub returns : goal.returns
 returns g c =
     let t = c.loop-name.store in
     let ss = g.S.Store.records t in
     record {
-      after = dropped (g.C.Choice.chosen c.args.choice.now) (g.S.Store.records c.args.store.now) ss c.loop-name.last c.loop-name.any (passed_all c.loop-name.last ss (sym c.following.ensures.answer ∙ c.in-default.is)) c.loop-name.invariant.0;
+      after = dropped (g.C.Choice.chosen c.args.choice.now) (g.S.Store.records c.args.store.now) ss c.loop-name.last c.loop-name.any (passed_all c.loop-name.last ss (sym c.following.ensures.answer ∙ c.in_default.is)) c.loop-name.invariant.0;
       same = c.loop-name.invariant.1;
     }

@@ -1,4 +1,4 @@
-use Rattle.std.proofs.Common.{◌≡◌, ℕ, List, Some, None, Option, sym, refl, ap, ◌∙◌}
+use Rattle.std.proofs.Common.{◌≡◌, List, Some, None, sym, refl, ap, ◌∙◌}
 use Rattle.tree.specs.declared.record.Record.{Record}
 use Rattle.tree.specs.Walk.{name_after}
 use Rattle.tree.proofs.Visits.{ahead_falls}
@@ -27,8 +27,8 @@ loop-name-preserved g c =
     let last = c.loop-name.last in
     let next : name_after last rs ≡ Some c.in-Some.name =
     sym (after_changed (cleared ts) (cleared_name ts) last last rs) ∙ (sym (ap (name_after last) c.loop-name.invariant.0) ∙ (sym c.following.ensures.answer ∙ c.in-Some.is)) in (
-      c.unmark-at.ensures.after ∙ (ap (λ (xs : List Record). changed_at c.in-Some.name (cleared ts) xs) c.loop-name.invariant.0 ∙ changed_step (cleared ts) (cleared_name ts) last c.in-Some.name rs (g.met.S.Store.rising s) next),
-      c.unmark-at.ensures.same ∙ c.loop-name.invariant.1,
+      c.unmark_at.ensures.after ∙ (ap (λ (xs : List Record). changed_at c.in-Some.name (cleared ts) xs) c.loop-name.invariant.0 ∙ changed_step (cleared ts) (cleared_name ts) last c.in-Some.name rs (g.met.S.Store.rising s) next),
+      c.unmark_at.ensures.same ∙ c.loop-name.invariant.1,
     )
 
 pub returns : goal.returns
@@ -37,5 +37,5 @@ returns g c =
     let ts = c.args.tickets.now in
     let last = c.loop-name.last in
     let end : name_after last rs ≡ None =
-    sym (after_changed (cleared ts) (cleared_name ts) last last rs) ∙ (sym (ap (name_after last) c.loop-name.invariant.0) ∙ (sym c.following.ensures.answer ∙ c.in-default.is)) in
+    sym (after_changed (cleared ts) (cleared_name ts) last last rs) ∙ (sym (ap (name_after last) c.loop-name.invariant.0) ∙ (sym c.following.ensures.answer ∙ c.in_default.is)) in
     record { after = c.loop-name.invariant.0 ∙ changed_all (cleared ts) (cleared_name ts) last rs end; same = c.loop-name.invariant.1 }

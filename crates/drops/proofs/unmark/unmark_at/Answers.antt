@@ -1,4 +1,4 @@
-use Rattle.std.proofs.Common.{◌≡◌, ℕ, sym, refl, ap, ◌∙◌}
+use Rattle.std.proofs.Common.{ℕ, sym, refl, ap, ◌∙◌}
 use Rattle.tree.specs.Records.{with_tag}
 use Rattle.walks.proofs.Tagged.{tag_changes, none_changes}
 use Rattle.drops.proofs.Changing.{cleared, cleared_is}
@@ -15,7 +15,7 @@ returns-in-Some g c =
       same = c.tag.ensures.same;
     }
 
-pub returns-in-default : goal.returns-in-default
-returns-in-default g c =
+pub returns-in_default : goal.returns-in_default
+returns-in_default g c =
     let s = c.args.store.now in
-    record { after = none_changes c.args.name (cleared c.args.tickets.now) (g.S.Store.records s) (sym c.look.ensures.answer ∙ c.in-default.is); same = refl }
+    record { after = none_changes c.args.name (cleared c.args.tickets.now) (g.S.Store.records s) (sym c.look.ensures.answer ∙ c.in_default.is); same = refl }

@@ -1,12 +1,9 @@
-use Rattle.std.proofs.Common.{◌≡◌, ℕ, suc, ◌+◌, ◌-◌, ◌<◌, ◌≤◌, eqb, List, ◌∷◌, length, Option, sym, ap, ◌∙◌, subst, arith}
-use Rattle.path.specs.declared.path.Path.{Path}
-use Rattle.path.specs.Paths.{steps_of}
+use Rattle.std.proofs.Common.{ℕ, ◌+◌, ◌-◌, ◌<◌, eqb, List, length, sym, ap, ◌∙◌, arith}
 use Rattle.path.specs.CodedPaths.{code_steps}
 use Rattle.fitting.specs.declared.fit.Ending.{Ending}
 use Rattle.fitting.specs.Fitting.{Reads}
 use Rattle.std.specs.Option.{option_map}
 use Rattle.std.proofs.lemmas.Bool.{ne_eqb}
-use Rattle.tree.specs.declared.record.Record.{Record}
 use Rattle.tree.specs.Trees.{bare}
 use Rattle.walks.proofs.Climbs.{Climbing, climb_begins, climb_arrives, climb_ends, climb_stops, climb_on, climb_in_vain, ended}
 use Rattle.walks.proofs.climb.climb.Given as given
@@ -35,12 +32,12 @@ returns-then-node-top g c e ls h =
     ∙ ended c.args.all rs c.args.path.now e ls c.args.top c.args.at _ (g.met.S.Store.rising s) (g.met.S.Store.tree s)
     (climb_arrives c.args.all rs c.args.path.now e ls c.args.top c.args.at (length rs - c.loop-k.k) c.loop-k.node c.loop-k.left c.if-node-top.true (c.loop-k.invariant e ls h))
 
-pub returns-in-default : goal.returns-in-default
-returns-in-default g c e ls h =
+pub returns-in_default : goal.returns-in_default
+returns-in_default g c e ls h =
     let s = c.args.store.now in
     let rs = g.S.Store.records s in
     let more : c.loop-k.k < length rs = omega arith in
-    let none = ap (option_map bare) (sym c.in-default.is) ∙ c.rung.ensures in
+    let none = ap (option_map bare) (sym c.in_default.is) ∙ c.rung.ensures in
     ended c.args.all rs c.args.path.now e ls c.args.top c.args.at _ (g.met.S.Store.rising s) (g.met.S.Store.tree s)
     (climb_stops c.args.all rs c.args.path.now e ls c.args.top c.args.at (length rs - c.loop-k.k) (length rs - (c.loop-k.k + 1)) c.loop-k.node c.loop-k.left (omega arith) c.if-node-top.false none (c.loop-k.invariant e ls h))
 

@@ -1,8 +1,5 @@
-use Rattle.std.proofs.Common.{◌≡◌, ℕ, eqb, [], ◌∙◌, subst}
-use Rattle.path.specs.declared.path.Path.{Path}
-use Rattle.path.specs.Paths.{steps_of}
+use Rattle.std.proofs.Common.{[], ◌∙◌}
 use Rattle.fitting.specs.declared.fit.Ending.TheVariants.{Closed}
-use Rattle.fitting.specs.Fitting.{Reads}
 use Rattle.tree.specs.Trees.{actual}
 use Rattle.model.specs.Ways.{way}
 use Rattle.walks.proofs.Climbs.{query_ends}

@@ -1,9 +1,5 @@
-use Rattle.std.proofs.Common.{◌≡◌, ℕ, eqb, List, [], ◌∷◌, Option, sym, ap, ◌∙◌, subst}
-use Rattle.path.specs.declared.path.Path.{Path}
-use Rattle.path.specs.Paths.{steps_of}
-use Rattle.fitting.specs.declared.fit.Ending.{Ending}
+use Rattle.std.proofs.Common.{ℕ, [], ◌∷◌, Option, sym, ap, ◌∙◌}
 use Rattle.fitting.specs.declared.fit.Ending.TheVariants.{Closed, Open}
-use Rattle.fitting.specs.Fitting.{Reads}
 use Rattle.tree.specs.Trees.{nodes}
 use Rattle.model.specs.Ways.{way}
 use Rattle.model.specs.Locks.{fits_way}

@@ -1,13 +1,13 @@
-use Rattle.std.proofs.Common.{◌≡◌, Bool, true, false, cond, ◌||◌, ◌⊎◌, Some, None, Option, sym, ap, ◌∙◌, ⊎_elim, arith}
+use Rattle.std.proofs.Common.{◌≡◌, Bool, true, false, cond, ◌||◌, Some, None, sym, ap, ◌∙◌, ⊎_elim}
 use Rattle.std.proofs.lemmas.Bool.{or_left, or_right, or_from, eq-eqb, ne_eqb}
-use Rattle.tree.specs.Trees.{Node, bare, live}
+use Rattle.tree.specs.Trees.{bare, live}
 use Rattle.walks.proofs.Climbs.{rung_is}
 use Rattle.walks.proofs.climb.rung.Goals as goal
 
-pub returns-in-default : goal.returns-in-default
-returns-in-default g c =
+pub returns-in_default : goal.returns-in_default
+returns-in_default g c =
     let s = c.args.store.now in
-    rung_is c.args.all (g.S.Store.records s) c.args.name None (g.met.S.Store.rising s) c.if-name-eq-ROOT.false (sym c.look.ensures.answer ∙ c.in-default.is)
+    rung_is c.args.all (g.S.Store.records s) c.args.name None (g.met.S.Store.rising s) c.if-name-eq-ROOT.false (sym c.look.ensures.answer ∙ c.in_default.is)
 
 pub returns-then-record-eq0 : goal.returns-then-record-eq0
 returns-then-record-eq0 g c =

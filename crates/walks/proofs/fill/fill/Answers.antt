@@ -8,6 +8,6 @@ returns g c =
     let buffer = c.args.buffer.now in
     let n = c.min-count.result in
     let all : n - 0 ≡ n = omega arith in
-    ap (λ ys. ys ++ drop (n - 0) buffer) c.copy-from-slice.ensures.after
+    ap (λ ys. ys ++ drop (n - 0) buffer) c.copy_from_slice.ensures.after
     ∙ (ap (λ (k : ℕ). take k items ++ drop k buffer) all
     ∙ overlaid_front items buffer n c.min-count.ensures)

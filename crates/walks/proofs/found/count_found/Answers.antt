@@ -1,4 +1,4 @@
-use Rattle.std.proofs.Common.{◌≡◌, ℕ, ◌+◌, ◌<◌, ◌≤◌, Bool, List, [], ◌∷◌, ◌++◌, length, set, sym, refl, ap, ◌∙◌, arith}
+use Rattle.std.proofs.Common.{◌≡◌, ℕ, ◌+◌, List, length, sym, ap, ◌∙◌, arith}
 use Rattle.std.proofs.lemmas.List.{length_push}
 use Rattle.tree.specs.declared.record.Record.{Record}
 use Rattle.tree.specs.Walk.{visited}
@@ -11,8 +11,8 @@ loop-name-init g c =
     let rs = g.S.Store.records c.args.store.now in
     sym (ap (λ (vs : List Record). length (names_of (finds rs c.args.top c.args.path.now) vs)) (visited_none rs))
 
-pub overflow-add-count : goal.overflow-add-count
-overflow-add-count g c =
+pub overflow_add-count : goal.overflow_add-count
+overflow_add-count g c =
     let s = c.args.store.now in
     let rs = g.S.Store.records s in
     let f = finds rs c.args.top c.args.path.now in
@@ -28,8 +28,8 @@ loop-name-smaller g c =
     let s = c.args.store.now in
     ahead_falls c.loop-name.last c.in-Some.name (g.S.Store.records s) (g.met.S.Store.rising s) (sym c.following.ensures.answer ∙ c.in-Some.is)
 
-pub loop-name-smaller-then-is-found : goal.loop-name-smaller-then-is-found
-loop-name-smaller-then-is-found g c =
+pub loop-name-smaller-then-is_found : goal.loop-name-smaller-then-is_found
+loop-name-smaller-then-is_found g c =
     let s = c.args.store.now in
     ahead_falls c.loop-name.last c.in-Some.name (g.S.Store.records s) (g.met.S.Store.rising s) (sym c.following.ensures.answer ∙ c.in-Some.is)
 
@@ -38,20 +38,20 @@ loop-name-preserved g c =
     let s = c.args.store.now in
     let rs = g.S.Store.records s in
     let f = finds rs c.args.top c.args.path.now in
-    let miss = found_miss f c.loop-name.last c.in-Some.name rs (g.met.S.Store.rising s) (sym c.following.ensures.answer ∙ c.in-Some.is) (sym c.is-found.ensures.answer ∙ c.if-is-found.false) in
+    let miss = found_miss f c.loop-name.last c.in-Some.name rs (g.met.S.Store.rising s) (sym c.following.ensures.answer ∙ c.in-Some.is) (sym c.is_found.ensures.answer ∙ c.if-is_found.false) in
     c.loop-name.invariant ∙ sym (ap (length {A = ℕ}) miss)
 
-pub loop-name-preserved-then-is-found : goal.loop-name-preserved-then-is-found
-loop-name-preserved-then-is-found g c =
+pub loop-name-preserved-then-is_found : goal.loop-name-preserved-then-is_found
+loop-name-preserved-then-is_found g c =
     let s = c.args.store.now in
     let rs = g.S.Store.records s in
     let f = finds rs c.args.top c.args.path.now in
-    let hit = found_hit f c.loop-name.last c.in-Some.name rs (g.met.S.Store.rising s) (sym c.following.ensures.answer ∙ c.in-Some.is) (sym c.is-found.ensures.answer ∙ c.if-is-found.true) in
+    let hit = found_hit f c.loop-name.last c.in-Some.name rs (g.met.S.Store.rising s) (sym c.following.ensures.answer ∙ c.in-Some.is) (sym c.is_found.ensures.answer ∙ c.if-is_found.true) in
     ap (λ (n : ℕ). n + 1) c.loop-name.invariant ∙ sym (ap (length {A = ℕ}) hit ∙ length_push (names_of f (visited c.loop-name.last rs)) c.in-Some.name)
 
 pub returns : goal.returns
 returns g c =
     let s = c.args.store.now in
     let rs = g.S.Store.records s in
-    let all = found_all rs c.args.top c.args.path.now c.loop-name.last (g.met.S.Store.rising s) (sym c.following.ensures.answer ∙ c.in-default.is) in
+    let all = found_all rs c.args.top c.args.path.now c.loop-name.last (g.met.S.Store.rising s) (sym c.following.ensures.answer ∙ c.in_default.is) in
     record { answer = c.loop-name.invariant ∙ ap (length {A = ℕ}) all }

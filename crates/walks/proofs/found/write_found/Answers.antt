@@ -1,4 +1,4 @@
-use Rattle.std.proofs.Common.{◌≡◌, ℕ, ◌+◌, ◌<◌, ◌≤◌, Bool, List, [], ◌∷◌, ◌++◌, length, set, sym, refl, ap, ◌∙◌, arith}
+use Rattle.std.proofs.Common.{◌≡◌, ℕ, ◌+◌, List, length, set, sym, ap, ◌∙◌, arith}
 use Rattle.std.proofs.lemmas.List.{length_push}
 use Rattle.tree.specs.declared.record.Record.{Record}
 use Rattle.tree.specs.Walk.{visited}
@@ -13,8 +13,8 @@ loop-name-init g c =
     let f = finds rs c.args.top c.args.path.now in
     (sym (ap (λ (vs : List Record). length (names_of f vs)) (visited_none rs)), sym (ap (λ (vs : List Record). filled (names_of f vs) c.args.buffer.now) (visited_none rs)))
 
-pub overflow-add-written : goal.overflow-add-written
-overflow-add-written g c =
+pub overflow_add-written : goal.overflow_add-written
+overflow_add-written g c =
     let s = c.args.store.now in
     let rs = g.S.Store.records s in
     let f = finds rs c.args.top c.args.path.now in
@@ -30,8 +30,8 @@ loop-name-smaller g c =
     let s = c.args.store.now in
     ahead_falls c.loop-name.last c.in-Some.name (g.S.Store.records s) (g.met.S.Store.rising s) (sym c.following.ensures.answer ∙ c.in-Some.is)
 
-pub loop-name-smaller-then-is-found : goal.loop-name-smaller-then-is-found
-loop-name-smaller-then-is-found g c =
+pub loop-name-smaller-then-is_found : goal.loop-name-smaller-then-is_found
+loop-name-smaller-then-is_found g c =
     let s = c.args.store.now in
     ahead_falls c.loop-name.last c.in-Some.name (g.S.Store.records s) (g.met.S.Store.rising s) (sym c.following.ensures.answer ∙ c.in-Some.is)
 
@@ -40,17 +40,17 @@ loop-name-preserved g c =
     let s = c.args.store.now in
     let rs = g.S.Store.records s in
     let f = finds rs c.args.top c.args.path.now in
-    let miss = found_miss f c.loop-name.last c.in-Some.name rs (g.met.S.Store.rising s) (sym c.following.ensures.answer ∙ c.in-Some.is) (sym c.is-found.ensures.answer ∙ c.if-is-found.false) in
+    let miss = found_miss f c.loop-name.last c.in-Some.name rs (g.met.S.Store.rising s) (sym c.following.ensures.answer ∙ c.in-Some.is) (sym c.is_found.ensures.answer ∙ c.if-is_found.false) in
     (c.loop-name.invariant.0 ∙ sym (ap (length {A = ℕ}) miss), c.loop-name.invariant.1 ∙ sym (ap (λ (ns : List ℕ). filled ns c.args.buffer.now) miss))
 
-pub loop-name-preserved-then-is-found : goal.loop-name-preserved-then-is-found
-loop-name-preserved-then-is-found g c =
+pub loop-name-preserved-then-is_found : goal.loop-name-preserved-then-is_found
+loop-name-preserved-then-is_found g c =
     let s = c.args.store.now in
     let rs = g.S.Store.records s in
     let xs = c.args.buffer.now in
     let f = finds rs c.args.top c.args.path.now in
     let ns = names_of f (visited c.loop-name.last rs) in
-    let hit = found_hit f c.loop-name.last c.in-Some.name rs (g.met.S.Store.rising s) (sym c.following.ensures.answer ∙ c.in-Some.is) (sym c.is-found.ensures.answer ∙ c.if-is-found.true) in (
+    let hit = found_hit f c.loop-name.last c.in-Some.name rs (g.met.S.Store.rising s) (sym c.following.ensures.answer ∙ c.in-Some.is) (sym c.is_found.ensures.answer ∙ c.if-is_found.true) in (
       ap (λ (n : ℕ). n + 1) c.loop-name.invariant.0 ∙ sym (ap (length {A = ℕ}) hit ∙ length_push ns c.in-Some.name),
       c.put.ensures
           ∙ (ap (λ (ys : List ℕ). set ys c.loop-name.written c.in-Some.name) c.loop-name.invariant.1
@@ -62,5 +62,5 @@ pub returns : goal.returns
 returns g c =
     let s = c.args.store.now in
     let rs = g.S.Store.records s in
-    let all = found_all rs c.args.top c.args.path.now c.loop-name.last (g.met.S.Store.rising s) (sym c.following.ensures.answer ∙ c.in-default.is) in
+    let all = found_all rs c.args.top c.args.path.now c.loop-name.last (g.met.S.Store.rising s) (sym c.following.ensures.answer ∙ c.in_default.is) in
     record { buffer = c.loop-name.invariant.1 ∙ ap (λ (ns : List ℕ). filled ns c.args.buffer.now) all }

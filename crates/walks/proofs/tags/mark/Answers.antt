@@ -1,4 +1,4 @@
-use Rattle.std.proofs.Common.{◌≡◌, sym, refl, ◌∙◌}
+use Rattle.std.proofs.Common.{sym, refl, ◌∙◌}
 use Rattle.tree.specs.declared.record.Record.{Record}
 use Rattle.model.specs.Changes.{with_mark}
 use Rattle.walks.proofs.Tagged.{tag_changes, none_changes}
@@ -13,7 +13,7 @@ returns-in-Some g c =
       same = c.tag.ensures.same;
     }
 
-pub returns-in-default : goal.returns-in-default
-returns-in-default g c =
+pub returns-in_default : goal.returns-in_default
+returns-in_default g c =
     let s = c.args.store.now in
-    record { after = none_changes c.args.name (λ (x : Record). with_mark x c.args.ticket) (g.S.Store.records s) (sym c.look.ensures.answer ∙ c.in-default.is); same = refl }
+    record { after = none_changes c.args.name (λ (x : Record). with_mark x c.args.ticket) (g.S.Store.records s) (sym c.look.ensures.answer ∙ c.in_default.is); same = refl }

@@ -1,10 +1,10 @@
-use Rattle.std.proofs.Common.{◌≡◌, ℕ, List, get_or, sym, refl, ap, ◌∙◌, arith, take_all}
+use Rattle.std.proofs.Common.{ℕ, List, get_or, sym, refl, ap, ◌∙◌, take_all}
 use Rattle.tree.specs.Records.{with_tag}
 use Rattle.model.specs.Changes.{learns}
 use Rattle.walks.proofs.Words.{put_in}
 use Rattle.walks.proofs.Tagged.{tag_changes, none_changes, taught, taught_none, taught_more}
 use Rattle.walks.proofs.tags.teach.Goals as goal
-use Rattle.walks.proofs.tags.teach.Goals.{in-Some, in-default}
+use Rattle.walks.proofs.tags.teach.Goals.{in-Some, in_default}
 
 pub loop-name-init : goal.loop-name-init
 loop-name-init g c = ((λ lt. taught_none c.args.place (g.S.Store.records c.args.store.now)), refl)
@@ -26,9 +26,9 @@ loop-name-preserved g c =
             (ap (λ (v : ℕ). with_tag w.in-Some.record.mark v w.in-Some.record) (put_in w.with.result w.in-Some.record.note i lt w.with.ensures)))),
         ap g.S.Store.most w.store-is ∙ (w.tag.ensures.same ∙ c.loop-name.invariant.1),
       )
-      | in-default w ↦ (
+      | in_default w ↦ (
         (λ lt. ap H w.store-is
-            ∙ taught_more i k names (H s) (H t) (H t) c.loop-name-test.true (c.loop-name.invariant.0 lt) (none_changes (get_or names k 0) (learns i) (H t) (sym c.look.ensures.answer ∙ w.in-default.is))),
+            ∙ taught_more i k names (H s) (H t) (H t) c.loop-name-test.true (c.loop-name.invariant.0 lt) (none_changes (get_or names k 0) (learns i) (H t) (sym c.look.ensures.answer ∙ w.in_default.is))),
         ap g.S.Store.most w.store-is ∙ c.loop-name.invariant.1,
       )
     ]

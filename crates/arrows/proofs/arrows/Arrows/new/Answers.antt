@@ -1,4 +1,4 @@
-use Rattle.std.proofs.Common.{◌≡◌, ℕ, zero, suc, get_or, replicate, refl, ap, ◌∙◌, arith}
+use Rattle.std.proofs.Common.{◌≡◌, ℕ, zero, suc, get_or, replicate, refl, ap, ◌∙◌}
 use Rattle.words.specs.Words.{bit}
 use Rattle.words.proofs.Bits.{bit_none}
 use Rattle.arrows.proofs.arrows.Arrows.new.Goals as goal

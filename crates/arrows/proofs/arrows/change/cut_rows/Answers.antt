@@ -1,8 +1,8 @@
-use Rattle.std.proofs.Common.{◌≡◌, ℕ, Bool, true, false, not, ◌&&◌, sym, refl, ap, ◌∙◌}
+use Rattle.std.proofs.Common.{◌≡◌, Bool, true, false, not, ◌&&◌, sym, refl, ap, ◌∙◌}
 use Rattle.words.specs.Words.{bit}
 use Rattle.words.proofs.Bits.{bit_none}
 use Rattle.arrows.specs.Between.{arrow_of}
-use Rattle.arrows.proofs.Cuts.{Cut, cut_at, cut_none, cut_old, cut_more, cut_all}
+use Rattle.arrows.proofs.Cuts.{cut_none, cut_old, cut_more, cut_all}
 use Rattle.arrows.proofs.arrows.change.cut_rows.Goals as goal
 use Rattle.arrows.proofs.arrows.change.cut_rows.Goals.{then-has, else-has}
 

@@ -1,10 +1,9 @@
-use Rattle.std.proofs.Common.{◌≡◌, ℕ, ◌+◌, ◌<◌, ◌≤◌, Bool, true, false, not, ◌&&◌, ◌||◌, eqb, ltb, get_or, sym, refl, ap, ◌∙◌, arith}
+use Rattle.std.proofs.Common.{◌≡◌, ℕ, ◌+◌, ◌<◌, Bool, true, false, not, ◌&&◌, ◌||◌, eqb, ltb, get_or, sym, ap, ◌∙◌, arith}
 use lib.Bits.{bit_and}
 use Rattle.std.proofs.lemmas.Bool.Decides.{nat_tests}
 use Rattle.std.proofs.lemmas.Bool.{ne_eqb, eq-eqb}
 use Rattle.words.specs.Words.{bit}
 use Rattle.tree.specs.Lists.{some_of}
-use Rattle.model.specs.Numbers.{member}
 use Rattle.arrows.specs.Between.{arrow_of}
 use Rattle.arrows.proofs.Widened.{meets, member_wider}
 use Rattle.arrows.proofs.arrows.reach.widen.Goals as goal

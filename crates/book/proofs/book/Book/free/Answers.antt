@@ -1,4 +1,4 @@
-use Rattle.std.proofs.Common.{◌≡◌, Bool, not, map, vec_items, ap, ◌∙◌, arith}
+use Rattle.std.proofs.Common.{Bool, not, map, vec_items, ap, ◌∙◌}
 use Rattle.words.specs.Words.{bit}
 use Rattle.model.specs.Locks.{Held}
 use Rattle.book.specs.Rows.{row_of}

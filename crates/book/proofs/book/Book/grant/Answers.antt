@@ -1,9 +1,8 @@
-use Rattle.std.proofs.Common.{◌≡◌, ℕ, ◌+◌, ◌≤◌, Bool, true, false, cond, not, ◌&&◌, ltb, List, [], ◌++◌, length, vec_items, vec_len, sym, ap, ◌∙◌, append_nil, arith}
+use Rattle.std.proofs.Common.{◌≡◌, ℕ, ◌+◌, ◌≤◌, Bool, true, not, ltb, length, vec_items, vec_len, sym, ◌∙◌, arith}
 use lib.ListN.{length-map}
-use Rattle.std.proofs.lemmas.Bool.{ltb-false, lt-ltb, le-ltb, not-true, not_false, and_from, and_left, and_right}
-use Rattle.model.specs.Locks.{Held}
+use Rattle.std.proofs.lemmas.Bool.{ltb-false, not-true}
 use Rattle.book.specs.declared.book.Book.{Book}
-use Rattle.book.specs.Rows.{row_of, held_of, rows_for}
+use Rattle.book.specs.Rows.{row_of, held_of}
 use Rattle.book.proofs.book.Book.grant.Goals as goal
 
 -- rows that are free are within the memory
@@ -18,14 +17,14 @@ pub append-requires : goal.append-requires
 append-requires c =
     let b = c.args.self.now in
     let room = b.room in
-    let few = few_enough b (length c.args.locks.now) c.has-room.result c.has-room.ensures c.if-has-room.true in
+    let few = few_enough b (length c.args.locks.now) c.has_room.result c.has_room.ensures c.if-has_room.true in
     (c.if-place-lt32.true, omega arith)
 
-pub invariant-of-self : goal.invariant-of-self
-invariant-of-self c =
+pub invariant_of-self : goal.invariant_of-self
+invariant_of-self c =
     let b = c.args.self.now in
     let room = b.room in
-    let few = few_enough b (length c.args.locks.now) c.has-room.result c.has-room.ensures c.if-has-room.true in
+    let few = few_enough b (length c.args.locks.now) c.has_room.result c.has_room.ensures c.if-has_room.true in
     let len = c.append.ensures.len in
     let cap = c.append.ensures.capacity in
-    (omega arith, (omega arith, tt))
+    record { few = omega arith; room = omega arith }

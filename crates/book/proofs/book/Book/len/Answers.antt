@@ -1,4 +1,4 @@
-use Rattle.std.proofs.Common.{◌≡◌, length, vec_items, vec_len, sym, ◌∙◌, arith}
+use Rattle.std.proofs.Common.{vec_items, arith}
 use lib.ListN.{length-map}
 use Rattle.book.specs.Rows.{row_of}
 use Rattle.book.proofs.book.Book.len.Goals as goal

@@ -1,12 +1,12 @@
-use Rattle.std.proofs.Common.{◌≡◌, ℕ, ◌+◌, List, [], ◌∷◌, ◌++◌, map, length, take, vec_items, sym, ap, ◌∙◌, arith, take_all}
+use Rattle.std.proofs.Common.{◌≡◌, List, [], ◌∷◌, ◌++◌, map, length, vec_items, ap, ◌∙◌, arith, take_all}
 use Rattle.model.specs.Locks.{Held}
 use Rattle.book.specs.declared.lock.Lock.{Lock}
 use Rattle.book.specs.Rows.{lock_of, row_of, rows_for}
 use Rattle.book.proofs.Kept.{map_last, append_more}
 use Rattle.book.proofs.book.change.append.Goals as goal
 
-pub push-reserved-requires : goal.push-reserved-requires
-push-reserved-requires c =
+pub push_reserved-requires : goal.push_reserved-requires
+push_reserved-requires c =
     let len = c.loop-lock.invariant.1 in
     let cap = c.loop-lock.invariant.2 in
     let room = c.requires.1 in
@@ -20,13 +20,13 @@ loop-lock-preserved c =
     let i = c.loop-lock.lock-index in
     let lock = c.lock-item.result in
     let len = c.loop-lock.invariant.1 in
-    let longer = c.push-reserved.ensures.len in (
-      ap (map row_of) c.push-reserved.ensures.items
+    let longer = c.push_reserved.ensures.len in (
+      ap (map row_of) c.push_reserved.ensures.items
           ∙ (map_last row_of (vec_items c.loop-lock.rows) _
           ∙ (ap (λ (hs : List Held). hs ++ (row lock ∷ [])) c.loop-lock.invariant.0
           ∙ append_more row first c.args.locks.now i lock c.loop-lock-test.true c.lock-item.is)),
       omega arith,
-      c.push-reserved.ensures.capacity ∙ c.loop-lock.invariant.2,
+      c.push_reserved.ensures.capacity ∙ c.loop-lock.invariant.2,
     )
 
 pub returns : goal.returns

@@ -1,4 +1,4 @@
-use Rattle.std.proofs.Common.{◌≡◌, ℕ, ◌+◌, ◌<◌, ◌≤◌, Bool, true, false, not, List, length, set, vec_items, vec_len, vec_capacity, sym, refl, ap, ◌∙◌, subst, arith}
+use Rattle.std.proofs.Common.{◌≡◌, ℕ, ◌+◌, ◌<◌, Bool, true, false, not, List, length, set, vec_items, vec_capacity, sym, ap, ◌∙◌, subst, arith}
 use Rattle.words.specs.Words.{bit}
 use Rattle.book.specs.declared.lock.LockRow.{LockRow}
 use Rattle.book.proofs.Kept.{Kept, kept_row, left_row, all_rows}

@@ -1,7 +1,7 @@
 use Rattle.std.proofs.Common.{length}
 use Rattle.tree.specs.Walk.{ahead}
 use Rattle.walks.specs.Hits.{hit_names}
-use Rattle.walks.proofs.Hits.{Found}
+use Rattle.walks.proofs.FoundSoFar.{Found}
 use Rattle.walks.proofs.hits.Hits.find.Given as goal
 
 abbrev pub invariant-loop-name : goal.invariant-loop-name
