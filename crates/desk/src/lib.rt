@@ -1,2 +1,4 @@
 // What a scheduler keeps beside its store.
+#![tactic(auto)]
+
 pub mod desk;

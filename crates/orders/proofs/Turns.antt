@@ -79,8 +79,8 @@ module _ (f seat : ℕ → ℕ) (between : ℕ → ℕ → Bool) (low : (i : ℕ
             side a b e h = grind arith
 
     free_some : (p : ℕ) → Foremost (clear between left) f (Some p) → first_free (via between seat) (tickets_of f left) (tickets_of f left) ≡ Some (f p)
-    free_some p (is-clear, least) =
-        let c = and_parts (left p) (not (some_of (λ j. between j p && left j) places)) is-clear in
+    free_some p (is_clear, least) =
+        let c = and_parts (left p) (not (some_of (λ j. between j p && left j) places)) is_clear in
         least_free (via between seat) (tickets_of f left) (tickets_of f left) (sorted_climbs (map f (keep left places))) (f p) (ticket_to p c.0)
         (held_up_same p c.0 ∙ not-true (some_of (λ j. between j p && left j) places) c.1) lesser
       where

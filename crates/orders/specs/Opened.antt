@@ -1,6 +1,6 @@
 -- The open tickets of seats, and the arrows between them.
 --
---   OnePlace s          no ticket sits at two places
+--   OnePlace s           no ticket sits at two places
 --   place_in s t         the place of the ticket t, 32 where it has none
 --   open_at s            the open tickets, rising
 --   arrow_at s a u v     there is an arrow from the ticket u to the ticket v

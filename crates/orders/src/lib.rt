@@ -1,4 +1,6 @@
 // Tickets in order.
+#![tactic(auto)]
+
 mod foremost;
 pub mod order;
 pub mod rising;

@@ -26,11 +26,11 @@ some_push f (y ∷ xs) x = ap (λ (b : Bool). f y || b) (some_push f xs x) ∙ a
 abbrev by_row : (h p : ℕ) (meets : Bool) (i : ℕ) → Bool
 by_row h p meets i = eqb h i && not (eqb i p) && meets
 
-put : (had had-h : Bool) (h p i : ℕ) (meets : Bool) → h < 32 → (not (eqb h p) && not had-h && meets) ≡ true → (had || (ltb h 32 && eqb i h)) ≡ (had || by_row h p meets i)
-put had had-h h p i meets low t = grind (arith, nat_tests)
+put : (had had_h : Bool) (h p i : ℕ) (meets : Bool) → h < 32 → (not (eqb h p) && not had_h && meets) ≡ true → (had || (ltb h 32 && eqb i h)) ≡ (had || by_row h p meets i)
+put had had_h h p i meets low t = grind (arith, nat_tests)
 
-skip : (had had-h : Bool) (h p i : ℕ) (meets : Bool) → (i ≡ h → had ≡ had-h) → (not (eqb h p) && not had-h && meets) ≡ false → had ≡ (had || by_row h p meets i)
-skip had had-h h p i meets same t = grind (arith, nat_tests)
+skip : (had had_h : Bool) (h p i : ℕ) (meets : Bool) → (i ≡ h → had ≡ had_h) → (not (eqb h p) && not had_h && meets) ≡ false → had ≡ (had || by_row h p meets i)
+skip had had_h h p i meets same t = grind (arith, nat_tests)
 
 module _ (ys : List Node) (p : ℕ) (ls : List (Lock CodedPath)) (rows : List LockRow) where
   -- the word has the rivals by the first k rows

@@ -1,4 +1,6 @@
 // The tickets that a ticket would have to wait for: those that hold a lock in conflict with one that it needs.
+#![tactic(auto)]
+
 ghost use Rattle.std.specs.Prelude.{◌≡◌, ℕ, not, ◌&&◌, map, ◌==◌};
 ghost use Rattle.words.specs.Words.{bit};
 ghost use Rattle.tree.specs.Lists.{some_of};

@@ -1,11 +1,11 @@
 -- What a state that was reached gives to the code: what goes can go, and counts fit.
-use Rattle.std.proofs.Common.{◌≡◌, ℕ, suc, ◌+◌, ◌≤◌, Bool, true, false, cond, not, eqb, ltb, List, [], ◌∷◌, ◌++◌, map, length, Some, None, sym, refl, ap, ◌∙◌, subst, ⊎_elim, arith}
+use Rattle.std.proofs.Common.{◌≡◌, ℕ, suc, ◌+◌, ◌≤◌, Bool, true, false, cond, not, eqb, ltb, [], ◌∷◌, ◌++◌, map, length, None, sym, refl, ap, ◌∙◌, subst, ⊎_elim, arith}
 use Rattle.std.proofs.lemmas.Bool.{cases_Bool}
 use Rattle.tree.specs.declared.record.Record.{Record}
 use Rattle.tree.specs.Lists.{keep}
 use Rattle.tree.specs.Names.{name_of, ticket_part}
 use Rattle.tree.specs.Records.{has}
-use Rattle.tree.specs.Trees.{Node, IsTree, bare, nodes}
+use Rattle.tree.specs.Trees.{IsTree, bare}
 use Rattle.tree.proofs.Look.{has_look, look_in, look_name}
 use Rattle.model.specs.declared.kiosk.Kiosk.TheVariants.{Zero}
 use Rattle.model.specs.Numbers.{member}
@@ -76,7 +76,7 @@ module _ (m : Model) (t : ℕ) (go : Reached m) where
         (subst IsTree (nodes_same (forgets (place_of m t ∷ [])) (λ r. refl) (keep (λ (r : Record). not (eqb r.mark t)) m.records)) after_finish.tree)
 
     pub one_more_fits : m.done + 1 ≤ 4294967295
-    one_more_fits = after_finish.done-fits
+    one_more_fits = after_finish.done_fits
 
   module _ (room : ℕ) (rows : first_row (withdraw_rows m room t) ≡ None) where
     withdraw_fit : m.fit ≡ true

@@ -1,5 +1,5 @@
 -- One place as a word.
-use Rattle.std.proofs.Common.{◌≡◌, ℕ, ◌<◌, Bool, true, false, ◌&&◌, ◌||◌, eqb, ltb, [], ◌∷◌, sym, refl, ap, ◌∙◌}
+use Rattle.std.proofs.Common.{◌≡◌, ℕ, ◌<◌, Bool, true, false, ◌&&◌, ◌||◌, eqb, ltb, [], ◌∷◌, refl, ap, ◌∙◌}
 use Rattle.words.specs.Words.{bit}
 use Rattle.words.proofs.Bits.{bit_none}
 use Rattle.model.specs.Numbers.{member}

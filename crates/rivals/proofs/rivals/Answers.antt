@@ -4,7 +4,7 @@ use Rattle.tree.specs.Trees.{nodes}
 use Rattle.book.specs.Rows.{lock_of, held_of}
 use Rattle.rivals.proofs.Rows.{row_put, row_skipped, rows_all}
 use Rattle.rivals.proofs.rivals.Goals as goal
-use Rattle.rivals.proofs.rivals.Goals.{then-is-new, else-is-new}
+use Rattle.rivals.proofs.rivals.Goals.{then-is_new, else-is_new}
 
 pub loop-row-init : goal.loop-row-init
 loop-row-init g c = bit_none
@@ -18,13 +18,13 @@ loop-row-preserved g c =
     let k = c.loop-row.row-index in
     let w = c.loop-row.word in
     let r = c.row-item.result in
-    elim c.if-is-new.branch [
-      | then-is-new way ↦
-          row_put ys p ls rows k w r c.loop-row-test.true c.row-item.is c.loop-row.invariant c.is-new.result c.is-new.ensures way.if-is-new.true
-          way.with-word.result c.if-is-new.word way.with-word.ensures way.word-is
-      | else-is-new way ↦
-          row_skipped ys p ls rows k w r c.loop-row-test.true c.row-item.is c.loop-row.invariant c.is-new.result c.is-new.ensures way.if-is-new.false
-          c.if-is-new.word way.word-is
+    elim c.if-is_new.branch [
+      | then-is_new way ↦
+          row_put ys p ls rows k w r c.loop-row-test.true c.row-item.is c.loop-row.invariant c.is_new.result c.is_new.ensures way.if-is_new.true
+          way.with-word.result c.if-is_new.word way.with-word.ensures way.word-is
+      | else-is_new way ↦
+          row_skipped ys p ls rows k w r c.loop-row-test.true c.row-item.is c.loop-row.invariant c.is_new.result c.is_new.ensures way.if-is_new.false
+          c.if-is_new.word way.word-is
     ]
 
 pub returns : goal.returns

@@ -1,4 +1,4 @@
-use Rattle.std.proofs.Common.{◌≡◌, ℕ, ◌+◌, ◌-◌, eqb, List, [], ◌∷◌, ◌++◌, length, Some, None, sym, ap, ◌∙◌, append_nil}
+use Rattle.std.proofs.Common.{◌≡◌, ℕ, ◌+◌, ◌-◌, eqb, List, [], ◌∷◌, ◌++◌, length, Some, None, sym, ap, ◌∙◌, append-nil}
 use mathlib.Core.Path.{fun_ext}
 use Rattle.std.proofs.lemmas.Bool.{and_parts, eqb-false, not-true}
 use Rattle.words.specs.Words.{bit}
@@ -28,17 +28,17 @@ loop-round-init c =
       (λ one. ap (order_from 32 (arrow_at s a)) all ∙ ap (λ (xs : List ℕ). xs ++ order_from 32 (arrow_at s a) (tickets_of f (bit c.taken-left.result))) (sym none)),
     )
 
-pub returns-in-default : goal.returns-in-default
-returns-in-default c one =
+pub returns-in_default : goal.returns-in_default
+returns-in_default c one =
     let s = c.args.seats.now in
     let a = between c.args.arrows.now in
     let f = ticket_at s in
     let left = bit c.loop-round.left in
     let out = listed c.loop-round.out in
     let inv = c.loop-round.invariant in
-    let none = foremost_like f (bit c.clear-of-clear.result) (clear a left) None c.clear-of-clear.ensures c.in-default.ensures in
+    let none = foremost_like f (bit c.clear_of-clear.result) (clear a left) None c.clear_of-clear.ensures c.in_default.ensures in
     let end = turn_none f (place_in s) a (seat_low s) (place_back s one) left inv.0 c.loop-round.round c.loop-round-test.true none in
-    sym (inv.2 one ∙ (ap (λ (xs : List ℕ). out ++ xs) end ∙ append_nil out))
+    sym (inv.2 one ∙ (ap (λ (xs : List ℕ). out ++ xs) end ∙ append-nil out))
 
 pub loop-round-preserved : goal.loop-round-preserved
 loop-round-preserved c =
@@ -52,9 +52,9 @@ loop-round-preserved c =
     let out = listed c.loop-round.out in
     let inv = c.loop-round.invariant in
     let less = c.without-left.ensures in
-    let first = foremost_like f (bit c.clear-of-clear.result) (clear a left) (Some p) c.clear-of-clear.ensures c.in-Some.ensures in
-    let push = pushed out (listed c.push.new.self) c.ticket-at.result n c.loop-round-test.true inv.1 c.push.ensures in
-    let is : listed c.push.new.self ≡ out ++ f p ∷ [] = push.0 ∙ ap (λ (t : ℕ). out ++ t ∷ []) c.ticket-at.ensures in (
+    let first = foremost_like f (bit c.clear_of-clear.result) (clear a left) (Some p) c.clear_of-clear.ensures c.in-Some.ensures in
+    let push = pushed out (listed c.push.new.self) c.ticket_at.result n c.loop-round-test.true inv.1 c.push.ensures in
+    let is : listed c.push.new.self ≡ out ++ f p ∷ [] = push.0 ∙ ap (λ (t : ℕ). out ++ t ∷ []) c.ticket_at.ensures in (
       (λ i t. inv.0 i (and_parts (left i) (but p i) (sym (less i) ∙ t)).0),
       push.1,
       (λ one.
@@ -68,4 +68,4 @@ returns c one =
     let left = bit c.loop-round.left in
     let out = listed c.loop-round.out in
     let end = turn_full c.loop-round.round (arrow_at s c.args.arrows.now) (tickets_of (ticket_at s) left) c.loop-round-test.false in
-    sym (c.loop-round.invariant.2 one ∙ (ap (λ (xs : List ℕ). out ++ xs) end ∙ append_nil out))
+    sym (c.loop-round.invariant.2 one ∙ (ap (λ (xs : List ℕ). out ++ xs) end ∙ append-nil out))

@@ -1,10 +1,10 @@
-use Rattle.std.proofs.Common.{◌≡◌, ℕ, ◌+◌, ◌<◌, ◌≤◌, Bool, true, false, cond, not, ◌&&◌, ◌||◌, eqb, ltb, List, [], ◌∷◌, ◌++◌, map, length, sym, refl, ap, ◌∙◌}
-use Rattle.std.proofs.lemmas.Bool.{cond-true, lt-ltb, le-ltb}
+use Rattle.std.proofs.Common.{◌≡◌, ℕ, ◌+◌, Bool, true, not, ◌&&◌, ◌||◌, eqb, ltb, List, [], ◌∷◌, ◌++◌, map, length, refl, ap, ◌∙◌}
+use Rattle.std.proofs.lemmas.Bool.{cond-true, le-ltb}
 use Rattle.words.specs.Words.{bit}
 use Rattle.path.specs.declared.coded.CodedPath.{CodedPath}
 use Rattle.model.specs.Locks as model
 use Rattle.model.specs.Locks.{Held}
-use Rattle.model.specs.Changes.{rivals, grant}
+use Rattle.model.specs.Changes.{grant}
 use Rattle.seats.specs.Places.{added_at}
 use Rattle.book.specs.declared.lock.Lock.{Lock}
 use Rattle.book.specs.Rows.{held_of, lock_of, rows_for}

@@ -8,5 +8,5 @@ use Rattle.desk.proofs.desk.Desk.place_to_open.Goals as goal
 pub returns-then-place-ge-PLACES : goal.returns-then-place-ge-PLACES
 returns-then-place-ge-PLACES c =
     let f = λ (i : ℕ). eqb (ticket_at c.args.self.now.seats i) 0 in
-    let none : eqb (lowest f) 32 ≡ true = eq-eqb (lowest f) 32 (no_place f (subst (λ (p : ℕ). 32 ≤ p) c.place-of-place.ensures c.if-place-ge-PLACES.true)) in
+    let none : eqb (lowest f) 32 ≡ true = eq-eqb (lowest f) 32 (no_place f (subst (λ (p : ℕ). 32 ≤ p) c.place_of-place.ensures c.if-place-ge-PLACES.true)) in
     search rules

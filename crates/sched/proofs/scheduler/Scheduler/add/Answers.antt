@@ -1,4 +1,4 @@
-use Rattle.std.proofs.Common.{◌≡◌, ℕ, suc, ◌+◌, ◌<◌, ◌≤◌, Bool, true, false, cond, not, ◌&&◌, ◌||◌, eqb, ltb, leb, List, [], ◌∷◌, map, length, is_some, Some, None, Option, sym, refl, ap, ◌∙◌, arith}
+use Rattle.std.proofs.Common.{◌≡◌, ℕ, suc, ◌+◌, ◌<◌, ◌≤◌, Bool, true, false, cond, not, ◌&&◌, ◌||◌, eqb, ltb, List, [], ◌∷◌, map, length, is_some, Some, None, Option, sym, refl, ap, ◌∙◌, arith}
 use Rattle.std.proofs.lemmas.Bool.{ltb-false, leb-false, ne_eqb, cond-true, true≢false}
 use Rattle.path.specs.declared.coded.CodedPath.{CodedPath}
 use Rattle.tree.specs.declared.record.Record.{Record}
@@ -6,12 +6,11 @@ use Rattle.tree.specs.Names.{name_of}
 use Rattle.tree.specs.Records.{look, has, fresh, placed}
 use Rattle.tree.specs.Calls.{first_root, may_place, place_after}
 use Rattle.model.specs.Numbers.{member}
-use Rattle.model.specs.Rules.{Answer, adds, made}
+use Rattle.model.specs.Rules.{adds, made}
 use Rattle.model.specs.Locks.{Lock, write}
 use Rattle.model.specs.Scheduler.{Model, place_of}
 use Rattle.model.specs.Changes.{new_record, learns, grant, grown}
-use Rattle.model.specs.Refusals.{unknown, first_row, add_rows}
-use Rattle.seats.specs.Places.{ticket_at, added_at}
+use Rattle.model.specs.Refusals.{unknown, add_rows}
 use Rattle.desk.specs.States.{state}
 use Rattle.desk.proofs.Rows.{passed, judged}
 use Rattle.desk.proofs.States.{same_state}
@@ -42,34 +41,34 @@ returns g c go room =
     let rs = g.S.Store.records s.store in
     let limit = g.S.Store.most s.store in
     let m = state rs limit s.desk in
-    let p = c.in-ok-place.place in
-    let at = c.in-ok-place.ensures.place in
+    let p = c.in_ok-place.place in
+    let at = c.in_ok-place.ensures.place in
     let ls : List (Lock CodedPath) = write n (Some a) ∷ [] in
-    let front = c.in-ok-place.ensures.rows in
+    let front = c.in_ok-place.ensures.rows in
     let tests = passed (but_last (add_rows m t n a)) front in
-    let none = no_row m t (adds t n a) p ls at.place refl (but_last (add_rows m t n a)) front (c.in-ok-rivals.ensures.rows at.low) in
+    let none = no_row m t (adds t n a) p ls at.place refl (but_last (add_rows m t n a)) front (c.in_ok-rivals.ensures.rows at.low) in
     let fits = ltb-false 256 (length m.locks + 1) tests.1.1.1.1.1.0 in
     let he = reached_healthy m go (not_false m.fit tests.0) in
     let k = m.added p in
     let few : k ≤ 1024 = (let f = few_added m t he tests.1.0 in let e : k ≡ m.added (place_of m t) = ap m.added at.place in omega arith) in
-    let count : c.saturating-add-count.result ≡ suc k = (let e = c.saturating-add-count.ensures in let f = c.added-at.ensures in omega arith) in
+    let count : c.saturating_add-count.result ≡ suc k = (let e = c.saturating_add-count.ensures in let f = c.added_at.ensures in omega arith) in
     let x = name_of t (suc k) in
-    let named : c.node-name-name.result ≡ x = c.node-name-name.ensures.answer ∙ ap (name_of t) count in
+    let named : c.node_name-name.result ≡ x = c.node_name-name.ensures.answer ∙ ap (name_of t) count in
     let new : has x rs ≡ false = ap (λ (i : ℕ). has (name_of t (suc (m.added i))) rs) at.place ∙ next_name_new m t he tests.1.0 in
     let may = placeable limit x n a rs new tests.1.1.1.1.0 (leb-false limit (length rs) tests.1.1.1.1.1.1.0) (known_there (look n rs) n (place_of m t) tests.1.1.0) in
     let put = c.place.ensures.after ∙ (ap (λ (y : ℕ). place_after limit y n a rs) named ∙ cond-true (may_place limit x n a rs) (placed (fresh x n a) rs) rs may) in
     let known = c.teach.ensures.after at.low
     ∙ ((λ z. map (λ (r : Record). cond (member r.name (named z ∷ [])) (learns p r) r) (put z)) ∙ made_known p x n a rs new) in
     let ss = placed (new_record p x n a) rs in
-    let done = c.grant.ensures rs ss limit at.low fits c.in-ok-rivals.ensures.rivals in
+    let done = c.grant.ensures rs ss limit at.low fits c.in_ok-rivals.ensures.rivals in
     let few' : k < 65535 = omega arith in
     let end = λ (i : ℕ). grant m i ls (placed (new_record i (name_of t (suc (m.added i))) n a) rs) (λ (j : ℕ). cond (eqb j i) (suc (m.added i)) (m.added j)) in
     let kept = c.teach.ensures.same ∙ c.place.ensures.same in
     let d = c.grant.new.self in
-    let after : state (g.S.Store.records c.teach.new.store) (g.S.Store.most c.teach.new.store) (record { seats = c.count-up.new.self; book = d.book; arrows = d.arrows; next = d.next; done = d.done; fit = d.fit }) ≡ end p =
+    let after : state (g.S.Store.records c.teach.new.store) (g.S.Store.most c.teach.new.store) (record { seats = c.count_up.new.self; book = d.book; arrows = d.arrows; next = d.next; done = d.done; fit = d.fit }) ≡ end p =
     same_state _ (end p) known kept (ap (λ (v : Model). v.fit) done) (ap (λ (v : Model). v.next) done)
-    (λ i. c.count-up.ensures.tickets i ∙ ap (λ (v : Model). v.tickets i) done)
-    (λ i. c.count-up.ensures.counts i ∙ ((λ z. cond (ltb p 32 && eqb i p && ltb ((done z).added i) 65535) (suc ((done z).added i)) ((done z).added i)) ∙ counted p m.added i at.low few'))
+    (λ i. c.count_up.ensures.tickets i ∙ ap (λ (v : Model). v.tickets i) done)
+    (λ i. c.count_up.ensures.counts i ∙ ((λ z. cond (ltb p 32 && eqb i p && ltb ((done z).added i) 65535) (suc ((done z).added i)) ((done z).added i)) ∙ counted p m.added i at.low few'))
     (ap (λ (v : Model). v.locks) done) (λ i j. ap (λ (v : Model). v.arrows i j) done) (ap (λ (v : Model). v.done) done) in
     judged (add_rows m t n a) None m (grown m t n a) none
     ∙ (sym (λ z. (end (at.place z), made (name_of t (suc (m.added (at.place z))))))

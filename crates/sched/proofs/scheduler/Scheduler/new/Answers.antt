@@ -7,7 +7,7 @@ returns g c =
     let bounded = g.met.S.Store.bounded s in
     let small = g.met.S.Store.small in
     record {
-      state = c.in-ok-desk.ensures (g.S.Store.records s) (g.S.Store.most s) c.fit-for-fit.ensures.answer;
+      state = c.in_ok-desk.ensures (g.S.Store.records s) (g.S.Store.most s) c.fit_for-fit.ensures.answer;
       kept = record {
         rising = g.met.S.Store.rising s;
         tree = g.met.S.Store.tree s;

@@ -1,13 +1,11 @@
-use Rattle.std.proofs.Common.{◌≡◌, ℕ, ◌+◌, ◌≤◌, cond, eqb, List, [], ◌∷◌, map, length, Some, None, Option, sym, refl, ap, ◌∙◌}
+use Rattle.std.proofs.Common.{◌≡◌, ◌+◌, cond, eqb, List, [], ◌∷◌, map, length, Some, None, Option, sym, ap, ◌∙◌}
 use Rattle.std.proofs.lemmas.Bool.{ltb-false}
 use Rattle.path.specs.declared.coded.CodedPath.{CodedPath}
 use Rattle.tree.specs.declared.record.Record.{Record}
-use Rattle.tree.specs.Records.{look}
 use Rattle.model.specs.Rules.{removes, removed}
 use Rattle.model.specs.Locks.{Lock, write, removal_locks, locks_of}
-use Rattle.model.specs.Scheduler.{Model}
 use Rattle.model.specs.Changes.{with_mark, taken}
-use Rattle.model.specs.Refusals.{first_row, remove_rows}
+use Rattle.model.specs.Refusals.{remove_rows}
 use Rattle.desk.specs.States.{state}
 use Rattle.desk.proofs.Rows.{passed, judged}
 use Rattle.sched.specs.Judging.{but_last}
@@ -22,17 +20,17 @@ returns g c room =
     let rs = g.S.Store.records s.store in
     let limit = g.S.Store.most s.store in
     let m = state rs limit s.desk in
-    let r = c.in-ok-place.«record» in
-    let p = c.in-ok-place.place in
-    let at = c.in-ok-place.ensures.place in
+    let r = c.in_ok-place.«record» in
+    let p = c.in_ok-place.place in
+    let at = c.in_ok-place.ensures.place in
     let ls : List (Lock CodedPath) = write n None ∷ write r.parent (Some r.label) ∷ [] in
-    let own : ls ≡ locks_of rs (removes t n) = sym (ap (λ (o : Option Record). removal_locks o n) c.in-ok-place.ensures.node) in
-    let front = c.in-ok-place.ensures.rows in
+    let own : ls ≡ locks_of rs (removes t n) = sym (ap (λ (o : Option Record). removal_locks o n) c.in_ok-place.ensures.node) in
+    let front = c.in_ok-place.ensures.rows in
     let tests = passed (but_last (remove_rows m t n)) front in
-    let none = no_row m t (removes t n) p ls at.place own (but_last (remove_rows m t n)) front (c.in-ok-rivals.ensures.rows at.low) in
+    let none = no_row m t (removes t n) p ls at.place own (but_last (remove_rows m t n)) front (c.in_ok-rivals.ensures.rows at.low) in
     let fits = ltb-false 256 (length m.locks + 2) tests.1.1.1.1.1.1.0 in
     let ss = map (λ (x : Record). cond (eqb x.name n) (with_mark x t) x) rs in
-    let done = c.grant.ensures rs ss limit at.low fits c.in-ok-rivals.ensures.rivals in
+    let done = c.grant.ensures rs ss limit at.low fits c.in_ok-rivals.ensures.rivals in
     let after = granted m t (removes t n) p ls at.place own (state ss limit c.grant.new.self) ss m.added done in
     judged (remove_rows m t n) None m (taken m t n) none
     ∙ (λ x. (after x, removed))

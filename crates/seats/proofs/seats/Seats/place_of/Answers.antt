@@ -9,5 +9,5 @@ pub returns : goal.returns
 returns c =
     let s = c.args.self.now in
     let t = c.args.ticket in
-    let word = c.places-with.result in
-    trailing_lowest word ∙ lowest_like (bit word) (λ i. eqb (ticket_at s i) t) (λ i lt. c.places-with.ensures i ∙ ap (λ (b : Bool). b && eqb (ticket_at s i) t) (lt-ltb i 32 lt))
+    let word = c.places_with.result in
+    trailing_lowest word ∙ lowest_like (bit word) (λ i. eqb (ticket_at s i) t) (λ i lt. c.places_with.ensures i ∙ ap (λ (b : Bool). b && eqb (ticket_at s i) t) (lt-ltb i 32 lt))

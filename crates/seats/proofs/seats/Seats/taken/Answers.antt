@@ -9,8 +9,8 @@ pub returns : goal.returns
 returns c i =
     let s = c.args.self.now in
     let long = s.full in
-    let free = c.places-with.result in
+    let free = c.places_with.result in
     ⊎_elim
-    (λ low. bit_flip free i (omega arith) low ∙ ap not (c.places-with.ensures i ∙ ap (λ (b : Bool). b && eqb (ticket_at s i) 0) (lt-ltb i 32 low)))
+    (λ low. bit_flip free i (omega arith) low ∙ ap not (c.places_with.ensures i ∙ ap (λ (b : Bool). b && eqb (ticket_at s i) 0) (lt-ltb i 32 low)))
     (λ high. bit_past (4294967295 - free) 32 i (omega arith) high ∙ sym (ap (λ (t : ℕ). not (eqb t 0)) (get_or_past s.tickets i 0 (omega arith))))
     (cases_lt i 32)
