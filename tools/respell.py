@@ -3,9 +3,11 @@
 
 usage: python3 tools/respell.py [--list]     at the top of the repository, once, after the kit's own script
 
-A name is turned where specs/ or proofs/ define it. Names that the checker makes (goals, invariants, measures, the steps
-behind `c.`) keep their spelling, and so does a name whose new form is another definition's already: a lemma keeps its dash
-there, which joins two names. A function of src/ and the definition that says what it answers may share a name.
+A name is turned, in every .rt and .antt file with its comments, where specs/ or proofs/ define it or VARIABLES lists it.
+Behind a dot only a word of a module's path or a field of our own records is turned. Names that the checker makes (goals,
+invariants, measures, steps) and names that a file imports from the library keep their spelling, and so does a name whose
+new form stands in an .antt file already: a lemma keeps its dash there, which joins two names. A function of src/ and the
+definition that says what it answers may share a name. must-fail/ and docs/ are left alone.
 `--list` prints what would be turned and what is kept.
 """
 

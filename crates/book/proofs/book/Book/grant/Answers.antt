@@ -18,7 +18,7 @@ append-requires c =
     let b = c.args.self.now in
     let room = b.room in
     let few = few_enough b (length c.args.locks.now) c.has_room.result c.has_room.ensures c.if-has_room.true in
-    (c.if-place-lt32.true, omega arith)
+    (omega arith, omega arith)
 
 pub invariant_of-self : goal.invariant_of-self
 invariant_of-self c =
