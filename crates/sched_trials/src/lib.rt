@@ -1,0 +1,5 @@
+// Trials of a scheduler over both kinds of store: that it can be made, and what its first calls answer.
+#![tactic(auto)]
+
+#[cfg(test)]
+mod first_calls;
