@@ -4,6 +4,7 @@
 pub mod coded;
 pub mod fault;
 pub mod path;
+pub mod query;
 pub mod read;
 pub mod step;
 pub mod token;

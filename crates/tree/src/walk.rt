@@ -7,7 +7,7 @@ use crate::store::Store;
 
 // The name that follows `last`: the least of all where `last` is `None`, which can only be the root's.
 pub fn following<S: Store>(store: &S, last: Option<u64>) -> Option<u64>
-    ensures answer { result ≡ name_after last (S.Store.records store.now) }
+    ensures answer { result ≡ name_after last (S.Store.meaning store.now).records }
 {
     match last {
         Some(name) => store.next_above(name),

@@ -6,31 +6,7 @@ use Rattle.std.proofs.lemmas.Bool.{cases_eq, lt-ltb}
 use Rattle.std.proofs.lemmas.Bool.Decides.{nat_tests}
 use Rattle.words.specs.Words.{bit}
 use Rattle.words.proofs.Bits.{bit-or, bit_one}
-
-same_low : (k v w : ℕ) → ((i : ℕ) → bit v i ≡ bit w i) → v % 2 ^ k ≡ w % 2 ^ k
-same_low zero v w h = omega arith
-same_low (suc k) v w h =
-    let t = same_low k v w h in
-    let a : v % 2 ^ suc k ≡ (v / 2 ^ k % 2 ^ 1) * 2 ^ k + v % 2 ^ k = ap (λ (n : ℕ). v % 2 ^ n) (sym (one-add k)) ∙ mod-pow-add v 1 k in
-    let b : w % 2 ^ suc k ≡ (w / 2 ^ k % 2 ^ 1) * 2 ^ k + w % 2 ^ k = ap (λ (n : ℕ). w % 2 ^ n) (sym (one-add k)) ∙ mod-pow-add w 1 k in
-    let e = h k in
-    let d : v / 2 ^ k % 2 ≡ w / 2 ^ k % 2 = grind (arith, nat_tests) in
-    a ∙ (ap (λ (n : ℕ). n * 2 ^ k + v % 2 ^ k) d ∙ (ap (λ (n : ℕ). (w / 2 ^ k % 2) * 2 ^ k + n) t ∙ sym b))
-
-lt_pow : (n : ℕ) → n < 2 ^ n
-lt_pow zero = omega arith
-lt_pow (suc n) =
-    let t = lt_pow n in
-    let e : 2 ^ suc n ≡ 2 ^ 1 * 2 ^ n = ap (λ (n : ℕ). 2 ^ n) (sym (one-add n)) ∙ pow-add 2 1 n in
-    omega arith
-
-pub word_same : (v w : ℕ) → ((i : ℕ) → bit v i ≡ bit w i) → v ≡ w
-word_same v w h =
-    let a = lt_pow v in
-    let b = lt_pow w in
-    let d : v < 2 ^ (v + w) = ⊎_elim (λ e. let x = ap (λ (n : ℕ). 2 ^ n) e in omega arith) (λ ne. let x = pow_below v (v + w) (omega arith) in omega arith) (cases_eq v (v + w)) in
-    let f : w < 2 ^ (v + w) = ⊎_elim (λ e. let x = ap (λ (n : ℕ). 2 ^ n) e in omega arith) (λ ne. let x = pow_below w (v + w) (omega arith) in omega arith) (cases_eq w (v + w)) in
-    sym (mod-eq_of_lt d) ∙ (same_low (v + w) v w h ∙ mod-eq_of_lt f)
+use Rattle.words.proofs.Sets.{word_same}
 
 -- a place put in, as the code does it and as the model does
 pub put_in : (r w i : ℕ) → i < 32 → ((k : ℕ) → bit r k ≡ (bit w k || (ltb i 32 && eqb k i))) → r ≡ bit_or (2 ^ i) w

@@ -1,9 +1,8 @@
 -- The word of a set of places: its places, and that a word is known by them.
 -- Assumes nothing.
-use Rattle.std.proofs.Common.{◌≡◌, ℕ, zero, suc, ◌+◌, ◌*◌, ◌/◌, ◌%◌, ◌^◌, ◌<◌, Bool, true, false, cond, ◌&&◌, ◌||◌, eqb, ltb, sym, refl, ap, ◌∙◌, one-mul, one-add, arith}
-use mathlib.Core.Path.{fun_ext}
-use lib.Bits.{bit_or}
-use Rattle.std.proofs.lemmas.Nat.{pow_pos, mod-pow-add, mod_below, or_shifted}
+use Rattle.std.proofs.Common.{◌≡◌, ℕ, zero, suc, ◌+◌, ◌*◌, ◌/◌, ◌%◌, ◌^◌, ◌<◌, Bool, true, false, cond, ◌&&◌, ◌||◌, eqb, ltb, sym, refl, ap, ◌∙◌, ⊎_elim, mod-eq_of_lt, one-add, arith}
+use Rattle.std.proofs.lemmas.Nat.{mod-pow-add, pow-add, pow_below}
+use Rattle.std.proofs.lemmas.Bool.{cases_eq}
 use Rattle.std.proofs.lemmas.Bool.Decides.{nat_tests}
 use Rattle.words.specs.Words.{bit, word_below, word_of}
 use Rattle.words.proofs.Bits.{bit-or, bit_none, bit_one}
@@ -29,24 +28,28 @@ pub bit_word : (f : ℕ → Bool) (i : ℕ) → bit (word_of f) i ≡ (ltb i 32 
 unfolding word_of
 bit_word f i = bit_below 32 f i
 
--- a word is the word of its places
-below_bits : (k w : ℕ) → word_below k (bit w) ≡ w % 2 ^ k
-below_bits zero w = omega arith
-below_bits (suc k) w =
-    let m : w % 2 ^ suc k ≡ (w / 2 ^ k % 2 ^ 1) * 2 ^ k + w % 2 ^ k = ap (λ (n : ℕ). w % 2 ^ n) (sym (one-add k)) ∙ mod-pow-add w 1 k in
-    let e : word_below (suc k) (bit w) ≡ bit_or (cond (bit w k) (2 ^ k) 0) (w % 2 ^ k) = ap (bit_or (cond (bit w k) (2 ^ k) 0)) (below_bits k w) in
-    let s = top (w / 2 ^ k % 2) (omega arith) (w % 2 ^ k) (mod_below w (2 ^ k) (pow_pos k)) in
-    e ∙ (s ∙ sym m)
-  where
-    top : (b : ℕ) → b < 2 → (l : ℕ) → l < 2 ^ k → bit_or (cond (eqb b 1) (2 ^ k) 0) l ≡ b * 2 ^ k + l
-    top zero h l lt = omega arith
-    top (suc zero) h l lt = ap (λ (n : ℕ). bit_or n l) (sym (one-mul (2 ^ k))) ∙ or_shifted 1 k l lt
-    top (suc (suc b)) h l lt = absurd (omega arith)
-
-pub word_bits : (w : ℕ) → w < 4294967296 → word_of (bit w) ≡ w
-unfolding word_of
-word_bits w h = below_bits 32 w ∙ omega arith
-
 -- words with the same places are the same
-pub word_same : (v w : ℕ) → v < 4294967296 → w < 4294967296 → ((k : ℕ) → bit v k ≡ bit w k) → v ≡ w
-word_same v w a b h = sym (word_bits v a) ∙ (ap word_of (fun_ext h) ∙ word_bits w b)
+same_low : (k v w : ℕ) → ((i : ℕ) → bit v i ≡ bit w i) → v % 2 ^ k ≡ w % 2 ^ k
+same_low zero v w h = omega arith
+same_low (suc k) v w h =
+    let t = same_low k v w h in
+    let a : v % 2 ^ suc k ≡ (v / 2 ^ k % 2 ^ 1) * 2 ^ k + v % 2 ^ k = ap (λ (n : ℕ). v % 2 ^ n) (sym (one-add k)) ∙ mod-pow-add v 1 k in
+    let b : w % 2 ^ suc k ≡ (w / 2 ^ k % 2 ^ 1) * 2 ^ k + w % 2 ^ k = ap (λ (n : ℕ). w % 2 ^ n) (sym (one-add k)) ∙ mod-pow-add w 1 k in
+    let e = h k in
+    let d : v / 2 ^ k % 2 ≡ w / 2 ^ k % 2 = grind (arith, nat_tests) in
+    a ∙ (ap (λ (n : ℕ). n * 2 ^ k + v % 2 ^ k) d ∙ (ap (λ (n : ℕ). (w / 2 ^ k % 2) * 2 ^ k + n) t ∙ sym b))
+
+lt_pow : (n : ℕ) → n < 2 ^ n
+lt_pow zero = omega arith
+lt_pow (suc n) =
+    let t = lt_pow n in
+    let e : 2 ^ suc n ≡ 2 ^ 1 * 2 ^ n = ap (λ (n : ℕ). 2 ^ n) (sym (one-add n)) ∙ pow-add 2 1 n in
+    omega arith
+
+pub word_same : (v w : ℕ) → ((i : ℕ) → bit v i ≡ bit w i) → v ≡ w
+word_same v w h =
+    let a = lt_pow v in
+    let b = lt_pow w in
+    let d : v < 2 ^ (v + w) = ⊎_elim (λ e. let x = ap (λ (n : ℕ). 2 ^ n) e in omega arith) (λ ne. let x = pow_below v (v + w) (omega arith) in omega arith) (cases_eq v (v + w)) in
+    let f : w < 2 ^ (v + w) = ⊎_elim (λ e. let x = ap (λ (n : ℕ). 2 ^ n) e in omega arith) (λ ne. let x = pow_below w (v + w) (omega arith) in omega arith) (cases_eq w (v + w)) in
+    sym (mod-eq_of_lt d) ∙ (same_low (v + w) v w h ∙ mod-eq_of_lt f)

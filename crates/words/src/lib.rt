@@ -2,7 +2,7 @@
 #![tactic(auto)]
 
 ghost use Rattle.std.specs.Prelude.{◌≡◌, ℕ, ◌<◌, not, ◌&&◌, ◌||◌, ◌==◌, nat_lt};
-ghost use Rattle.words.specs.Words.{bit};
+ghost use Rattle.words.specs.Words.{bit, word_of};
 
 // Whether the place is in the set.
 pub fn has(word: u32, place: usize) -> bool
@@ -31,4 +31,12 @@ pub fn without(word: u32, place: usize) -> u32
     } else {
         word
     }
+}
+
+// The places of the word that are not in `gone`.
+pub fn minus(word: u32, gone: u32) -> u32
+    ensures places { (k : ℕ) → bit result k ≡ (bit word k && not (bit gone k)) }
+    ensures value { result ≡ word_of (λ k. bit word k && not (bit gone k)) }
+{
+    word & !gone
 }
