@@ -1,13 +1,10 @@
 // A line as it comes in, byte by byte.
-ghost use Rattle.std.specs.Prelude.{◌≡◌, ◌≤◌, length};
+use bounded::Bounded;
 
 pub mod take;
 
 // The first 201 bytes of a line: enough to tell one that is longer than 200, however long it is.
 #[derive(Clone, Copy)]
 pub struct Line {
-    held: [u8; 201],
-    len: usize,
-    ghost full: { length held ≡ 201 },
-    ghost within: { len ≤ 201 },
+    held: Bounded<u8, 201>,
 }

@@ -11,7 +11,8 @@
 --   spot n, seen r          what a name, or the answer of a reading, says of the text
 --
 -- Assumes nothing.
-use Rattle.std.specs.Prelude.{◌≡◌, ℕ, zero, suc, ◌+◌, ◌≤◌, Bool, true, false, cond, ◌&&◌, List, [], ◌∷◌, length, take, drop, Ok, Err, Result, nat_lt}
+use Rattle.std.specs.Prelude.{◌≡◌, ℕ, zero, suc, ◌+◌, ◌≤◌, Bool, true, false, cond, ◌&&◌, List, [], ◌∷◌, length, drop, Ok, Err, Result, nat_lt}
+use Rattle.bounded.specs.Items.{items_of}
 use Rattle.byte_classes.specs.declared.classes.Classes.{Classes}
 use Rattle.name.specs.declared.fault.NameCause.{NameCause}
 use Rattle.name.specs.declared.fault.NameCause.TheVariants.{Empty, Byte, Long}
@@ -63,7 +64,7 @@ read_name c at [] = Err (fault Empty at)
 read_name c at (b ∷ bs) = then (bytes_check c 0 at (b ∷ bs)) (Ok (record { bytes = b ∷ bs; at = at }))
 
 abbrev pub spot : Name → Spot
-spot n = record { bytes = take n.len n.bytes; at = n.at }
+spot n = record { bytes = items_of n.bytes; at = n.at }
 
 abbrev pub seen : Result Name NameFault → Result Spot NameFault
 seen (Ok n) = Ok (spot n)

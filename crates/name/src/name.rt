@@ -1,5 +1,8 @@
 // A name as it was written, and the part of a text that it is read from.
-ghost use Rattle.std.specs.Prelude.{◌≡◌, ◌≤◌, length};
+ghost use Rattle.std.specs.Prelude.{◌≤◌, length};
+ghost use Rattle.bounded.specs.Items.{items_of};
+
+use bounded::Bounded;
 
 pub mod compare;
 pub mod cut;
@@ -15,10 +18,7 @@ pub struct Part<'a> {
 // One to sixteen bytes, and the offset in the text where they began.
 #[derive(Clone, Copy)]
 pub struct Name {
-    bytes: [u8; 16],
-    len: usize,
+    bytes: Bounded<u8, 16>,
     at: usize,
-    ghost full: { length bytes ≡ 16 },
-    ghost some: { 1 ≤ len },
-    ghost most: { len ≤ 16 },
+    ghost some: { 1 ≤ length (items_of bytes) },
 }

@@ -3,8 +3,7 @@ ghost use Rattle.std.specs.Prelude.{◌≡◌, [], ◌∷◌, ◌++◌, length, 
 ghost use Rattle.lines.specs.Held.{held_bytes};
 
 use crate::line::Line;
-
-const MOST: usize = 201;
+use bounded::Bounded;
 
 impl Line {
     // A line that has not begun.
@@ -12,8 +11,7 @@ impl Line {
         ensures { held_bytes result ≡ [] }
     {
         Line {
-            held: [0; 201],
-            len: 0,
+            held: Bounded::new(0),
         }
     }
 
@@ -21,29 +19,25 @@ impl Line {
     pub fn push(&mut self, byte: u8)
         ensures { held_bytes self.new ≡ take 201 (held_bytes self.old ++ byte ∷ []) }
     {
-        if self.len < MOST {
-            self.held[self.len] = byte;
-            self.len += 1;
-        }
+        let _ = self.held.push(byte);
     }
 
     // Whether no byte has come.
     pub fn is_empty(&self) -> bool
         ensures { result ≡ (length (held_bytes self.now) == 0) }
     {
-        self.len == 0
+        self.held.is_empty()
     }
 
     pub fn clear(&mut self)
         ensures { held_bytes self.new ≡ [] }
     {
-        self.len = 0;
+        self.held.clear();
     }
 
     pub fn bytes(&self) -> &[u8]
         ensures { result.now ≡ held_bytes self.now }
     {
-        let held = &self.held[..];
-        &held[0..self.len]
+        self.held.as_slice()
     }
 }

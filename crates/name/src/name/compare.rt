@@ -1,6 +1,8 @@
 // What a name says, and whether two say the same.
 ghost use Rattle.std.specs.Prelude.{◌≡◌};
 ghost use Rattle.std.specs.Str.{bytes_eq};
+ghost use Rattle.std.specs.Cmp.Rules.{comparing};
+ghost use Rattle.std.proofs.Common.{rules};
 ghost use Rattle.name.specs.Names.{spot};
 
 use crate::name::Name;
@@ -16,14 +18,21 @@ impl Name {
     pub fn bytes(&self) -> &[u8]
         ensures { result.now ≡ (spot self.now).bytes }
     {
-        let held = &self.bytes[..];
-        &held[0..self.len]
+        self.bytes.as_slice()
     }
+}
 
-    // Whether both have the same bytes, wherever they were written.
-    pub fn is(&self, other: &Name) -> bool
-        ensures { result ≡ bytes_eq (spot self.now).bytes (spot other.now).bytes }
-    {
+// Two are equal if they have the same bytes, wherever they were written.
+impl PartialEq for Name {
+    ghost eq = { λ x y. bytes_eq (spot x).bytes (spot y).bytes };
+
+    ghost laws = { Prim.search (comparing, rules) };
+
+    fn eq(&self, other: &Name) -> bool {
         self.bytes() == other.bytes()
     }
+}
+
+impl Eq for Name {
+    ghost laws = { Prim.search (comparing, rules) };
 }

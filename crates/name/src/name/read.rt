@@ -4,6 +4,7 @@ ghost use Rattle.name.specs.Names.{Spot, byte_check, bytes_check, bytes_of, read
 
 use crate::fault::{NameCause, NameFault};
 use crate::name::{Name, Part};
+use bounded::Bounded;
 use byte_classes::classes::{Class, Classes};
 
 const LONGEST: usize = 16;
@@ -36,8 +37,8 @@ fn check_byte(classes: &Classes, before: usize, at: usize, byte: u8) -> Result<(
 fn check_bytes(classes: &Classes, part: Part) -> Result<(), NameFault>
     ensures { result ≡ bytes_check classes.now 0 part.entry.at (bytes_of part.entry) }
 {
-    for place in part.at..part.text.len() {
-        check_byte(classes, place - part.at, place, part.text[place])?;
+    for (before, byte) in part.bytes().iter().enumerate() {
+        check_byte(classes, before, part.at + before, *byte)?;
     }
     Ok(())
 }
@@ -47,11 +48,8 @@ fn copied(bytes: &[u8], at: usize) -> Name
     requires { (1 ≤ length bytes.now) × (length bytes.now ≤ 16) }
     ensures { spot result ≡ record { bytes = bytes.entry.now; at = at } }
 {
-    let mut held = [0; 16];
-    held[0..bytes.len()].copy_from_slice(bytes);
     Name {
-        bytes: held,
-        len: bytes.len(),
+        bytes: Bounded::copied(0, bytes),
         at,
     }
 }
@@ -62,13 +60,13 @@ impl Name {
         ensures answer { seen result ≡ read_name classes.now part.entry.at (bytes_of part.entry) }
         ensures accepts { Decides (is_ok result) (IsName classes.now (bytes_of part.entry)) }
     {
-        if part.at >= part.text.len() {
+        if part.bytes().is_empty() {
             return Err(NameFault {
                 cause: NameCause::Empty,
                 at: part.at,
             });
         }
         check_bytes(classes, part)?;
-        Ok(copied(&part.text[part.at..], part.at))
+        Ok(copied(part.bytes(), part.at))
     }
 }

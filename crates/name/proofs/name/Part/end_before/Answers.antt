@@ -1,26 +1,18 @@
-use Rattle.std.proofs.Common.{ℕ, List, length, arith}
-use Rattle.std.proofs.lemmas.List.{at_drop_more, at_drop_all}
-use Rattle.std.proofs.lemmas.Bool.Decides.{nat_tests}
-use Rattle.name.specs.Parts.{before}
+use Rattle.std.proofs.Common.{ℕ, ◌==◌, length, arith, rules}
+use Rattle.std.proofs.lemmas.List.Sums.{position_or_len_is}
+use Rattle.name.proofs.Fronts.{before_first}
 use Rattle.name.proofs.name.Part.end_before.Goals as goal
 
-abbrev before_length : ℕ → List ℕ → ℕ
-before_length b xs = length (before b xs)
+pub returns-in-Some : goal.returns-in-Some
+returns-in-Some c =
+    let bs = c.bytes-bytes.result.now in
+    let found = position_or_len_is (λ (b : ℕ). b == c.args.byte) bs c.in-Some.front 0 (search rules) (search rules) (search rules) in
+    let first = before_first c.args.byte bs in
+    grind arith
 
-pub loop-place-preserved : goal.loop-place-preserved
-loop-place-preserved c =
-    let next = at_drop_more (before_length c.args.byte) c.args.self.text.now c.loop-place.place 0 (omega arith) in
-    (grind (arith, nat_tests), λ h. omega arith)
-
-pub returns-then-self-place : goal.returns-then-self-place
-returns-then-self-place c =
-    let next = at_drop_more (before_length c.args.byte) c.args.self.text.now c.loop-place.place 0 (omega arith) in
-    let front = c.loop-place.invariant.0 in
-    grind (arith, nat_tests)
-
-pub returns : goal.returns
-returns c =
-    let none = at_drop_all (before_length c.args.byte) c.args.self.text.now c.loop-place.place (omega arith) in
-    let front = c.loop-place.invariant.0 in
-    let within = c.loop-place.invariant.1 in
-    grind (arith, nat_tests)
+pub returns-in-None : goal.returns-in-None
+returns-in-None c =
+    let bs = c.bytes-bytes.result.now in
+    let none = position_or_len_is (λ (b : ℕ). b == c.args.byte) bs (length bs) 0 (omega arith) (search rules) (search rules) in
+    let first = before_first c.args.byte bs in
+    grind arith
