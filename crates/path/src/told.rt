@@ -5,12 +5,12 @@ ghost use Rattle.path.specs.Refusals.{path_refusal};
 use crate::fault::PathFault;
 use refusal::{Layer, Refusal};
 
-impl PathFault {
-    pub fn refusal(self) -> Refusal
-        ensures { result ≡ path_refusal self }
-    {
-        match self {
-            PathFault::Name(fault) => fault.refusal(),
+impl From<PathFault> for Refusal {
+    ghost from_gives = { λ x y. y ≡ path_refusal x };
+
+    fn from(fault: PathFault) -> Refusal {
+        match fault {
+            PathFault::Name(fault) => Refusal::from(fault),
             PathFault::Empty(place) => Refusal {
                 number: 31,
                 place,

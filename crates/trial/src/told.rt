@@ -5,12 +5,12 @@ ghost use Rattle.trial.specs.Refusals.{line_refusal};
 use crate::fault::LineFault;
 use refusal::{Layer, Refusal};
 
-impl LineFault {
-    pub fn refusal(self) -> Refusal
-        ensures { result ≡ line_refusal self }
-    {
-        match self {
-            LineFault::Path(fault) => fault.refusal(),
+impl From<LineFault> for Refusal {
+    ghost from_gives = { λ x y. y ≡ line_refusal x };
+
+    fn from(fault: LineFault) -> Refusal {
+        match fault {
+            LineFault::Path(fault) => Refusal::from(fault),
             LineFault::Field(place) => Refusal {
                 number: 41,
                 place,

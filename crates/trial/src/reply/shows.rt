@@ -7,6 +7,7 @@ use crate::line::answer_line;
 use crate::reply::Reply;
 use byte_classes::classes::Classes;
 use fitting::fit::Fit;
+use refusal::Refusal;
 use std::fmt;
 
 // What the line is answered, refused or not.
@@ -15,7 +16,7 @@ pub fn reply_to(classes: &Classes, line: &[u8]) -> Reply
 {
     match answer_line(classes, line) {
         Ok(fit) => Reply::Fits(fit),
-        Err(fault) => Reply::Refused(fault.refusal()),
+        Err(fault) => Reply::Refused(Refusal::from(fault)),
     }
 }
 
