@@ -8,43 +8,18 @@ use crate::Linked;
 use tree::ROOT;
 
 impl Linked {
-    // How many rows have a lesser name.
-    fn seat(&self, name: u64) -> usize
-        ensures answer { result ≡ seat name self.now.rows.items }
-    {
-        let mut low = 0;
-        let mut high = self.rows.len();
-        while low < high {
-            let mid = low + (high - low) / 2;
-            if self.rows[mid].name < name {
-                low = mid + 1;
-            } else {
-                high = mid;
-            }
-        }
-        low
-    }
-
     // `Ok`: the seat of the row with this name. `Err`: the seat that such a row would take.
     pub(crate) fn find(&self, name: u64) -> Result<usize, usize>
         ensures answer { result ≡ found name self.now.rows.items }
     {
-        let seat = self.seat(name);
-        if seat < self.rows.len() && self.rows[seat].name == name {
-            Ok(seat)
-        } else {
-            Err(seat)
-        }
+        self.rows.binary_search_by_key(&name, |row| row.name)
     }
 
     // How many rows have this name or a lesser one.
     pub(crate) fn past(&self, name: u64) -> usize
         ensures answer { result ≡ seat (name + 1) self.now.rows.items }
     {
-        match self.find(name) {
-            Ok(seat) => seat + 1,
-            Err(seat) => seat,
-        }
+        self.rows.partition_point(|row| row.name <= name)
     }
 
     // Whether a new row hangs in the tree: its parent is there, or it is the first row of all, the root.
@@ -62,11 +37,8 @@ impl Linked {
     pub(crate) fn is_parent(&self, name: u64) -> bool
         ensures answer { result ≡ is_parent name self.now.rows.items }
     {
-        for row in self.rows.as_slice() {
-            if row.name != name && row.parent == name {
-                return true;
-            }
-        }
-        false
+        self.rows
+            .iter()
+            .any(|row| row.name != name && row.parent == name)
     }
 }

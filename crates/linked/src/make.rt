@@ -1,6 +1,5 @@
 // How a linked store is made.
 ghost use Rattle.std.specs.Prelude.{◌≡◌, min, [], IfOk};
-ghost use Rattle.linked.specs.contracts.store.LinkedStore.TheImpl.{ghosts as linkedly};
 
 use crate::Linked;
 use std::alloc::{AllocError, Global};
@@ -9,7 +8,7 @@ use tree::Store;
 impl Linked {
     // An empty store for `rows` records, or for the largest number where `rows` is more. All its memory is reserved here.
     pub fn new(heap: Global, rows: usize) -> Result<Linked, AllocError>
-        ensures made { IfOk result (λ s. (linkedly.records s ≡ []) × (linkedly.most s ≡ min rows 1024)) }
+        ensures made { IfOk result (λ s. ⟦<Linked as Store>⟧.meaning s ≡ record { records = []; most = min rows 1024 }) }
     {
         let limit = rows.min(Self::LARGEST);
         let reserved = Vec::with_capacity(heap, limit)?;

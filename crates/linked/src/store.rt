@@ -7,11 +7,9 @@ use tree::{Record, Refused, Store};
 impl Store for Linked {
     const LARGEST: usize = 1_024;
 
-    ghost records = { λ s. s.rows.items };
+    ghost LARGEST = { 1024 };
 
-    ghost most = { λ s. s.limit };
-
-    ghost top = { 1024 };
+    ghost meaning = { λ s. record { records = s.rows.items; most = s.limit } };
 
     ghost rising = { Prim.search rules };
 
@@ -38,19 +36,12 @@ impl Store for Linked {
     }
 
     fn next_above(&self, name: u64) -> Option<u64> {
-        let next = self.past(name);
-        if next < self.rows.len() {
-            Some(self.rows[next].name)
-        } else {
-            None
-        }
+        self.rows.get(self.past(name)).map(|row| row.name)
     }
 
     fn look(&self, name: u64) -> Option<Record> {
-        match self.find(name) {
-            Ok(seat) => Some(self.rows[seat]),
-            Err(_) => None,
-        }
+        let seat = self.find(name).ok()?;
+        Some(self.rows[seat])
     }
 
     fn place(&mut self, name: u64, parent: u64, label: u16) -> Result<(), Refused> {

@@ -1,25 +1,14 @@
-use Rattle.std.proofs.Common.{vec_items, arith}
-use Rattle.std.proofs.lemmas.Bool.Decides.{nat_tests}
-use Rattle.tree.proofs.Seats.{look_at_seat, look_past_seat}
+use Rattle.std.proofs.Common.{rules, ap, ◌∙◌}
+use Rattle.std.proofs.lemmas.List.Sorted.{answers_always}
+use Rattle.tree.specs.Records.{rises}
+use Rattle.linked.specs.Seats.{found}
+use Rattle.linked.proofs.Rows.{searched}
 use Rattle.linked.proofs.Linked.find.Goals as goal
-use Rattle.linked.proofs.Linked.find.Goals.{else-seat-len-via-then-seat-len+else-index-name, else-seat-len-via-else-seat-len}
 
-pub returns-then-index-name : goal.returns-then-index-name
-returns-then-index-name c =
-    let s = c.args.self.now in
-    let e = s.rows.ok.0 in
-    let h = look_at_seat c.args.name (vec_items s.rows) c.index.result.now s.rising (omega arith) in
-    record { answer = grind (arith, nat_tests) }
-
-pub returns-else-seat-len : goal.returns-else-seat-len
-returns-else-seat-len c =
-    let s = c.args.self.now in
-    let e = s.rows.ok.0 in
-    elim c.else-seat-len.branch [
-      | else-seat-len-via-then-seat-len+else-index-name w ↦
-          let h = look_at_seat c.args.name (vec_items s.rows) w.index.result.now s.rising (omega arith) in
-          record { answer = grind (arith, nat_tests) }
-      | else-seat-len-via-else-seat-len w ↦
-          let h = look_past_seat c.args.name (vec_items s.rows) (omega arith) in
-          record { answer = grind (arith, nat_tests) }
-    ]
+pub returns : goal.returns
+returns c =
+    let n = c.args.name in
+    let same = c.deref.ensures.value in
+    let facts = c.binary_search_by_key.ensures in
+    let by_name = facts.position (λ row. row.name) (answers_always _ _ _ (λ f a r g called. search rules)) in
+    record { answer = searched n c.deref.result.now (ap rises same ∙ c.args.self.now.rising) _ facts.bound by_name ∙ ap (found n) same }

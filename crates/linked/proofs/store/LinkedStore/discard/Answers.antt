@@ -1,11 +1,11 @@
-use Rattle.std.proofs.Common.{◌≡◌, true, false, List, vec_items, sym, refl, ap, ◌∙◌, subst, arith}
+use Rattle.std.proofs.Common.{◌≡◌, true, false, List, vec_items, sym, ap, ◌∙◌, subst, arith}
 use Rattle.std.proofs.lemmas.Bool.{cond-true}
 use Rattle.tree.specs.declared.record.Record.{Record}
 use Rattle.tree.specs.Records.{is_parent, without}
 use Rattle.tree.specs.Calls.{may_discard, discard_after, answer_of}
 use Rattle.tree.proofs.Seats.{without_at_seat}
 use Rattle.tree.proofs.Kept.{Sound, discard_sound}
-use Rattle.linked.proofs.Rows.{rows_sound, found_there}
+use Rattle.linked.proofs.Rows.{rows_sound, with_limit, found_there}
 use Rattle.linked.proofs.store.LinkedStore.discard.Goals as goal
 use Rattle.linked.proofs.store.LinkedStore.discard.Goals.{After-remove}
 
@@ -37,5 +37,6 @@ invariant_of-self c =
 
 pub returns : goal.returns
 returns c =
+    let s = c.args.self.now in
     let w = went_out (goal.at.returns c).After-remove in
-    record { answer = sym (ap answer_of w.0); after = w.1 ∙ sym (cond-true _ _ _ w.0); same = refl }
+    record { answer = sym (ap answer_of w.0); after = ap (with_limit s.limit) (w.1 ∙ sym (cond-true _ _ _ w.0)) }

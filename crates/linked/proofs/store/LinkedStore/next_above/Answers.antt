@@ -1,18 +1,10 @@
-use Rattle.std.proofs.Common.{vec_items, arith}
-use Rattle.std.proofs.lemmas.Bool.Decides.{nat_tests}
+use Rattle.std.proofs.Common.{rules, vec_items}
 use Rattle.tree.proofs.Seats.{next_at_seat, next_past_seat}
 use Rattle.linked.proofs.store.LinkedStore.next_above.Goals as goal
 
-pub returns-then-next-len : goal.returns-then-next-len
-returns-then-next-len c =
-    let v = c.args.self.now.rows in
-    let e = v.ok.0 in
-    let h = next_at_seat c.args.name (vec_items v) c.index.result.now (omega arith) in
-    record { answer = grind (arith, nat_tests) }
-
-pub returns-else-next-len : goal.returns-else-next-len
-returns-else-next-len c =
-    let v = c.args.self.now.rows in
-    let e = v.ok.0 in
-    let h = next_past_seat c.args.name (vec_items v) (omega arith) in
-    record { answer = grind (arith, nat_tests) }
+pub returns : goal.returns
+returns c =
+    let rs = vec_items c.args.self.now.rows in
+    let a = next_at_seat c.args.name rs in
+    let b = next_past_seat c.args.name rs in
+    search rules

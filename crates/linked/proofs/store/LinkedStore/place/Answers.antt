@@ -1,4 +1,4 @@
-use Rattle.std.proofs.Common.{◌≡◌, true, List, is_ok, vec_items, sym, refl, ap, ◌∙◌, subst, arith}
+use Rattle.std.proofs.Common.{◌≡◌, true, List, is_ok, vec_items, sym, ap, ◌∙◌, subst, arith}
 use Rattle.std.proofs.lemmas.Bool.{cond-true}
 use Rattle.std.proofs.lemmas.Bool.Decides.{nat_tests}
 use Rattle.tree.specs.declared.record.Record.{Record}
@@ -6,7 +6,7 @@ use Rattle.tree.specs.Records.{fresh, placed}
 use Rattle.tree.specs.Calls.{may_place, place_after, answer_of}
 use Rattle.tree.proofs.Seats.{seat_bound, placed_at_seat}
 use Rattle.tree.proofs.Kept.{Sound, place_sound}
-use Rattle.linked.proofs.Rows.{rows_sound, found_absent}
+use Rattle.linked.proofs.Rows.{rows_sound, with_limit, found_absent}
 use Rattle.linked.proofs.store.LinkedStore.place.Goals as goal
 use Rattle.linked.proofs.store.LinkedStore.place.Goals.{After-insert}
 
@@ -43,5 +43,6 @@ invariant_of-self c =
 
 pub returns : goal.returns
 returns c =
+    let s = c.args.self.now in
     let w = went_in (goal.at.returns c).After-insert in
-    record { answer = sym (ap answer_of w.0); after = w.1 ∙ sym (cond-true _ _ _ w.0); same = refl }
+    record { answer = sym (ap answer_of w.0); after = ap (with_limit s.limit) (w.1 ∙ sym (cond-true _ _ _ w.0)) }

@@ -1,4 +1,4 @@
-use Rattle.std.proofs.Common.{◌≡◌, true, List, set, vec_items, sym, refl, ap, ◌∙◌, subst, arith}
+use Rattle.std.proofs.Common.{◌≡◌, true, List, set, vec_items, sym, ap, ◌∙◌, subst, arith}
 use Rattle.std.proofs.lemmas.Bool.{cond-true}
 use Rattle.std.proofs.lemmas.Bool.Decides.{nat_tests}
 use Rattle.tree.specs.declared.record.Record.{Record}
@@ -6,7 +6,7 @@ use Rattle.tree.specs.Records.{has, with_tag}
 use Rattle.tree.specs.Calls.{tag_after, answer_of}
 use Rattle.tree.proofs.Seats.{look_at_seat, tagged_at_seat}
 use Rattle.tree.proofs.Kept.{Sound, tag_sound}
-use Rattle.linked.proofs.Rows.{rows_sound, found_there}
+use Rattle.linked.proofs.Rows.{rows_sound, with_limit, found_there}
 use Rattle.linked.proofs.store.LinkedStore.tag.Goals as goal
 use Rattle.linked.proofs.store.LinkedStore.tag.Goals.{After-index-row}
 
@@ -44,5 +44,6 @@ invariant_of-self c =
 
 pub returns : goal.returns
 returns c =
+    let s = c.args.self.now in
     let t = tagged_there (goal.at.returns c).After-index-row in
-    record { answer = sym (ap answer_of t.0); after = sym t.1; same = refl }
+    record { answer = sym (ap answer_of t.0); after = ap (with_limit s.limit) (sym t.1) }
