@@ -21,7 +21,7 @@ use Rattle.calls.specs.Reasons.{number_of}
 
 abbrev pub call_of : Call → ℕ → ℕ → scheduler.Call
 call_of Open names tickets = opens
-call_of (Ask t n p) names tickets = acts names (asks t n p)
+call_of (Ask t q) names tickets = acts names (asks t q.top q.path)
 call_of (Add t n a) names tickets = acts names (adds t n a)
 call_of (Remove t n) names tickets = acts names (removes t n)
 call_of (Finish t) names tickets = finishes t

@@ -2,7 +2,7 @@
 use crate::reason::Reason;
 
 // A list stands at the start of the buffer that the caller lends; its answer has the length.
-#[derive(Clone, Copy)]
+#[derive(Clone, Copy, PartialEq, Debug)]
 pub enum Answer {
     Ticket(u32),
     Found(usize),

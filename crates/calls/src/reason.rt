@@ -3,7 +3,7 @@ ghost use Rattle.std.specs.Prelude.{◌≡◌};
 ghost use Rattle.calls.specs.Reasons.{number_of};
 
 // In the order of their numbers: where several apply, the first is given.
-#[derive(Clone, Copy)]
+#[derive(Clone, Copy, PartialEq, Eq, Debug)]
 pub enum Reason {
     // The scheduler was made over a store that it cannot begin with.
     Unfit,
@@ -34,11 +34,12 @@ pub enum Reason {
     Spent,
 }
 
-impl Reason {
-    pub fn number(self) -> u8
-        ensures { result ≡ number_of self }
-    {
-        match self {
+// The number by which a refusal is answered.
+impl From<Reason> for u8 {
+    ghost from_gives = { λ reason number. number ≡ number_of reason };
+
+    fn from(reason: Reason) -> u8 {
+        match reason {
             Reason::Unfit => 1,
             Reason::NotOpen => 2,
             Reason::Unknown => 3,
