@@ -1,10 +1,13 @@
 -- The lowest place of a word is the number of its trailing zeros.
 -- Assumes nothing.
-use Rattle.std.proofs.Common.{◌≡◌, ℕ, zero, suc, ◌+◌, ◌/◌, ◌%◌, ◌^◌, ◌<◌, Bool, true, false, cond, eqb, sym, refl, ap, ◌∙◌, one-add, arith}
+use Rattle.std.proofs.Common.{◌≡◌, ℕ, zero, suc, ◌+◌, ◌/◌, ◌%◌, ◌^◌, ◌<◌, Bool, true, false, cond, eqb, sym, refl, ap, ◌∙◌, MatchOption, ⊎_elim, ltb, one-add, arith}
 use lib.Count.{count_trailing_zeros, under}
 use Rattle.std.proofs.lemmas.Nat.{shr-shr}
 use Rattle.words.specs.Words.{bit}
+use Rattle.std.specs.Bool.{then_some}
+use Rattle.std.proofs.lemmas.Bool.{cases_eq, ltb-true, ltb-false}
 use Rattle.model.specs.Numbers.{seek, lowest}
+use Rattle.model.proofs.Tied.{lowest_hit}
 
 -- the places of half a word stand one place lower
 bit_half : (w j : ℕ) → bit w (suc j) ≡ bit (w / 2) j
@@ -45,3 +48,13 @@ seek_like f g (suc k) i h =
 pub lowest_like : (f g : ℕ → Bool) → ((i : ℕ) → i < 32 → f i ≡ g i) → lowest f ≡ lowest g
 unfolding lowest
 lowest_like f g h = seek_like f g 32 0 (λ j lt. h j (omega arith))
+
+-- the lowest place, where it is one
+pub found : (f : ℕ → Bool) (n : ℕ) → n ≡ lowest f → MatchOption (then_some (ltb n 32) n) (lowest f ≡ 32) (λ p. (p ≡ lowest f) × (p < 32))
+found f n is = go (ltb n 32) refl
+  where
+    go : (b : Bool) → ltb n 32 ≡ b → MatchOption (then_some b n) (lowest f ≡ 32) (λ p. (p ≡ lowest f) × (p < 32))
+    go true e = (is, ltb-true n 32 e)
+    go false e =
+        let past = ltb-false n 32 e in
+        ⊎_elim (λ same. same) (λ ne. let low = (lowest_hit f ne).1 in absurd (omega arith)) (cases_eq (lowest f) 32)

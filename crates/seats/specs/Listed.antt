@@ -3,8 +3,9 @@
 --   listed t    the tickets of the list t, in their order
 --
 -- Assumes nothing.
-use Rattle.std.specs.Prelude.{ℕ, List, take}
-use Rattle.seats.specs.declared.tickets.Tickets.{Tickets}
+use Rattle.std.specs.Prelude.{ℕ, List}
+use Rattle.bounded.specs.declared.bounded.Bounded.{Bounded}
+use Rattle.bounded.specs.Items.{items_of}
 
-abbrev pub listed : Tickets → List ℕ
-listed t = take t.len t.row
+abbrev pub listed : Bounded ℕ 32 → List ℕ
+listed t = items_of t

@@ -4,11 +4,16 @@ ghost use Rattle.std.specs.Prelude.{◌≡◌, length};
 pub mod change;
 pub mod read;
 
-// For each of 32 places its ticket, 0 where the place is free, and how many additions were accepted of that ticket.
+// What stands at a place: its ticket, 0 where the place is free, and how many additions were accepted of that ticket.
+#[derive(Clone, Copy)]
+pub struct Seat {
+    pub ticket: u32,
+    pub added: u16,
+}
+
+// 32 places.
 #[derive(Clone, Copy)]
 pub struct Seats {
-    tickets: [u32; 32],
-    added: [u16; 32],
-    ghost full: { length tickets ≡ 32 },
-    ghost counted: { length added ≡ 32 },
+    places: [Seat; 32],
+    ghost full: { length places ≡ 32 },
 }

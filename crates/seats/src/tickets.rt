@@ -1,13 +1,5 @@
 // A list of tickets.
-ghost use Rattle.std.specs.Prelude.{◌≡◌, ◌≤◌, length};
+use bounded::Bounded;
 
-pub mod row;
-
-// At most 32 tickets: the first `len` of the row.
-#[derive(Clone, Copy)]
-pub struct Tickets {
-    row: [u32; 32],
-    len: usize,
-    ghost full: { length row ≡ 32 },
-    ghost few: { len ≤ 32 },
-}
+// At most one ticket for each place.
+pub type Tickets = Bounded<u32, 32>;

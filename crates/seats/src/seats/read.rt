@@ -1,5 +1,5 @@
 // What the places hold, and the places as words.
-ghost use Rattle.std.specs.Prelude.{◌≡◌, ℕ, not, ◌&&◌, ◌==◌, nat_eq, nat_lt};
+ghost use Rattle.std.specs.Prelude.{◌≡◌, ℕ, ◌<◌, not, ◌&&◌, ◌==◌, nat_eq, nat_lt, MatchOption};
 ghost use Rattle.words.specs.Words.{bit};
 ghost use Rattle.model.specs.Numbers.{lowest};
 ghost use Rattle.seats.specs.Places.{ticket_at, added_at};
@@ -12,33 +12,42 @@ impl Seats {
     pub fn ticket_at(&self, place: usize) -> u32
         ensures { result ≡ ticket_at self.now place }
     {
-        if place < 32 { self.tickets[place] } else { 0 }
+        if place < 32 {
+            self.places[place].ticket
+        } else {
+            0
+        }
     }
 
     // How many additions were accepted of the ticket at the place.
     pub fn added_at(&self, place: usize) -> u16
         ensures { result ≡ added_at self.now place }
     {
-        if place < 32 { self.added[place] } else { 0 }
+        if place < 32 {
+            self.places[place].added
+        } else {
+            0
+        }
     }
 
     fn places_with(&self, ticket: u32) -> u32
         ensures { (i : ℕ) → bit result i ≡ (nat_lt i 32 && ticket_at self.now i == ticket) }
     {
         let mut word = 0;
-        for q in 0..32 {
-            if self.tickets[q] == ticket {
-                word = with(word, q);
+        for (place, seat) in self.places.iter().enumerate() {
+            if seat.ticket == ticket {
+                word = with(word, place);
             }
         }
         word
     }
 
-    // The lowest place with the ticket, and of ticket 0 the lowest free place; 32 where there is none.
-    pub fn place_of(&self, ticket: u32) -> usize
-        ensures { result ≡ lowest (λ i. nat_eq (ticket_at self.now i) ticket) }
+    // The lowest place with the ticket, and of ticket 0 the lowest free place.
+    pub fn place_of(&self, ticket: u32) -> Option<usize>
+        ensures { let place = lowest (λ i. nat_eq (ticket_at self.now i) ticket) in MatchOption result (place ≡ 32) (λ p. (p ≡ place) × (p < 32)) }
     {
-        self.places_with(ticket).trailing_zeros() as usize
+        let place = self.places_with(ticket).trailing_zeros() as usize;
+        (place < 32).then_some(place)
     }
 
     // The places that are not free.

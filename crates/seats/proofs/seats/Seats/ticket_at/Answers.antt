@@ -1,6 +1,0 @@
-use Rattle.std.proofs.Common.{sym, arith}
-use Rattle.std.proofs.lemmas.List.{get_or_past}
-use Rattle.seats.proofs.seats.Seats.ticket_at.Goals as goal
-
-pub returns-else-place-lt32 : goal.returns-else-place-lt32
-returns-else-place-lt32 c = let long = c.args.self.now.full in sym (get_or_past c.args.self.now.tickets c.args.place 0 (omega arith))
