@@ -2,6 +2,7 @@
 ghost use Rattle.std.proofs.Common.{rules};
 
 use crate::Linked;
+use std::alloc::{AllocError, Global};
 use tree::{Record, Refused, Store};
 
 impl Store for Linked {
@@ -23,8 +24,10 @@ impl Store for Linked {
 
     ghost small = { Prim.search rules };
 
-    fn ceiling() -> usize {
-        Self::LARGEST
+    fn new(heap: Global, rows: usize) -> Result<Linked, AllocError> {
+        let limit = rows.min(Self::LARGEST);
+        let rows = Vec::with_capacity(heap, limit)?;
+        Ok(Linked { rows, limit })
     }
 
     fn count(&self) -> usize {
