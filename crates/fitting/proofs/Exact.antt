@@ -96,12 +96,16 @@ module _ {L : Type 0} (same : L → L → Bool) where
     fits_complete Closed ss ls h = fitting ss ls h
     fits_complete Open ss ls (last, h) = some_last ss ls last (fitting ss (ls ++ last ∷ []) h)
 
-    pub fits_exactly : (e : Ending) (ss : List (Step L)) (ls : List L) → Says (verdict (fits same e ss ls)) (FitsPath Same e ss ls)
+    fits_exactly : (e : Ending) (ss : List (Step L)) (ls : List L) → Says (verdict (fits same e ss ls)) (FitsPath Same e ss ls)
     fits_exactly e ss ls = says (fits same e ss ls) (fits_sound e ss ls) (fits_complete e ss ls)
       where
         says : {P : Type 0} (b : Bool) → (b ≡ true → P) → (P → b ≡ true) → Says (verdict b) P
         says true sound complete = sound refl
         says false sound complete = λ p. false≢true (complete p)
+
+    -- an answer that is the computed one means what it says
+    pub means_it : (e : Ending) (ss : List (Step L)) (ls : List L) (r : Fit) → r ≡ verdict (fits same e ss ls) → Says r (FitsPath Same e ss ls)
+    means_it e ss ls r answer = subst (λ (r : Fit). Says r (FitsPath Same e ss ls)) (sym answer) (fits_exactly e ss ls)
 
 -- what is stood for by one rule of passing is stood for by another that follows
 stands_by : {L : Type 0} (R S : L → L → Type 0) → ((t : Test L) (a : L) → Passes R t a → Passes S t a) → (ss : List (Step L)) (ls : List L) → StandsFor R ss ls → StandsFor S ss ls
@@ -130,7 +134,7 @@ module _ {L : Type 0} (same : L → L → Bool) (decides : (x y : L) → Decides
   fits_by_equation some e ss ls r answer =
       let R : L → L → Type 0 = λ x y. same x y ≡ true in
       says_by r (fits_by R ◌≡◌ by_equation e ss ls) (fits_by ◌≡◌ R by_test e ss ls)
-      (subst (λ (r : Fit). Says r (FitsPath R e ss ls)) (sym answer) (fits_exactly same (λ x. (decides x x).1 refl) some e ss ls))
+      (means_it same (λ x. (decides x x).1 refl) some e ss ls r answer)
 
 -- labels compared by what f says of them
 module _ {K L : Type 0} (same : L → L → Bool) (f : K → L) where

@@ -5,10 +5,11 @@
 --                    follows a, h that s and those behind it do
 --   fits e ss ls     the label path ls with the ending e fits the steps ss
 --   verdict b        the answer for a test
+--   fit_text f       how the answer f is printed: `yes` or `no`
 --   Reads e ss ls w  the word w has the places of ss from which on its steps fit ls with the ending e
 --
 -- Assumes nothing.
-use Rattle.std.specs.Prelude.{◌≡◌, ℕ, ◌≤◌, Bool, true, false, ◌&&◌, ◌||◌, List, [], ◌∷◌, length, drop}
+use Rattle.std.specs.Prelude.{◌≡◌, ℕ, ◌≤◌, Bool, true, false, ◌&&◌, ◌||◌, List, [], ◌∷◌, length, drop, codes}
 use Rattle.words.specs.Words.{bit}
 use Rattle.path.specs.declared.step.Step.{Step}
 use Rattle.path.specs.declared.step.Test.{Test}
@@ -45,3 +46,7 @@ module _ {L : Type 0} (same : L → L → Bool) where
 abbrev pub verdict : Bool → Fit
 verdict true = Yes
 verdict false = No
+
+abbrev pub fit_text : Fit → List ℕ
+fit_text Yes = codes "yes"
+fit_text No = codes "no"
