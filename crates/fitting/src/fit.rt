@@ -8,7 +8,7 @@ pub enum Ending {
     Open,
 }
 
-#[derive(Clone, Copy)]
+#[derive(Clone, Copy, PartialEq, Debug)]
 pub enum Fit {
     Yes,
     No,

@@ -1,4 +1,4 @@
-use Rattle.std.proofs.Common.{◌≡◌, ℕ, ◌+◌, Bool, true, false, ◌&&◌, ◌||◌, eqb, ltb, List, length, get_or, sym, ap, ◌∙◌, subst, arith, length-take}
+use Rattle.std.proofs.Common.{◌≡◌, ℕ, ◌+◌, Bool, true, false, ◌&&◌, ◌||◌, eqb, ltb, List, length, get_or, sym, ap, ◌∙◌, subst, arith}
 use Rattle.std.proofs.lemmas.List.{get_or_default}
 use Rattle.std.proofs.lemmas.Bool.{lt-ltb}
 use Rattle.std.proofs.lemmas.Bool.Decides.{nat_tests}
@@ -7,6 +7,7 @@ use Rattle.words.proofs.Bits.{bit_none, place_left, place_put}
 use Rattle.path.specs.declared.step.Step.{Step}
 use Rattle.path.specs.declared.step.Test.TheVariants.{Star}
 use Rattle.path.specs.Paths.{steps_of}
+use Rattle.path.proofs.Sizes.{most_steps}
 use Rattle.fitting.specs.Fitting.{takes}
 use Rattle.fitting.proofs.Places.{goes_back}
 use Rattle.fitting.proofs.backward.back.Goals as goal
@@ -26,8 +27,8 @@ loop-k-preserved g c j d =
     c.takes.ensures ∙ (ap (λ (s : Step _). takes g.L.Label.same s c.args.label.now c.has.result c.has-in-loop-k.result) here
     ∙ (ap (λ (b : Bool). takes g.L.Label.same (get_or ss k d) c.args.label.now b c.has-in-loop-k.result) c.has.ensures
     ∙ ap (takes g.L.Label.same (get_or ss k d) c.args.label.now (bit w (k + 1))) c.has-in-loop-k.ensures)) in
-    let most = c.args.path.now.most in
-    let size = ap length c.steps-steps.ensures ∙ length-take c.args.path.now.count c.args.path.now.row in
+    let most = most_steps c.args.path.now in
+    let size = ap length c.steps-steps.ensures in
     let room : ltb k 32 ≡ true = lt-ltb _ _ (omega arith) in
     elim c.if-takes.branch [
       | then-takes x ↦
