@@ -1,10 +1,11 @@
 -- The one law of fitting; nodes are found, depths are bounded, and a way is what the relation of being below says.
-use Rattle.std.proofs.Common.{◌≡◌, ℕ, zero, suc, ◌+◌, ◌≤◌, Bool, true, false, cond, eqb, ◌≢◌, List, [], ◌∷◌, ◌++◌, map, length, take, Some, None, Option, sym, refl, ap, ◌∙◌, subst, inl, inr, arith}
+use Rattle.std.proofs.Common.{◌≡◌, ℕ, zero, suc, ◌+◌, ◌≤◌, Bool, true, false, cond, eqb, ◌≢◌, List, [], ◌∷◌, ◌++◌, map, length, Some, None, Option, sym, refl, ap, ◌∙◌, subst, inl, inr, arith}
 use native.Mathlib.Decide.{ℕ_discrete}
 use Rattle.std.proofs.lemmas.Bool.{true≢false, eqb-true, eqb-false, eq-eqb, ne_eqb, cond-true, cond-false}
 use Rattle.path.specs.declared.coded.CodedPath.{CodedPath}
 use Rattle.path.specs.declared.step.Step.{Step}
 use Rattle.path.specs.CodedPaths.{code_steps}
+use Rattle.path.proofs.Sizes.{has_step}
 use Rattle.fitting.specs.declared.fit.Ending.TheVariants.{Closed}
 use Rattle.fitting.proofs.Exact.{some_last}
 use Rattle.fitting.specs.Fitting as fitting
@@ -22,12 +23,11 @@ opens_law ls a p h = some_last eqb (code_steps p) ls a h
 
 -- a path has a step, so that no labels do not fit
 pub nothing_fits : (p : CodedPath) → fits [] p ≡ true → ⊥
-nothing_fits p = none_left p.path.count p.path.row p.path.some p.path.full
+nothing_fits p = none_left (code_steps p) (has_step p.path)
   where
-    none_left : (k : ℕ) (ss : List (Step ℕ)) → 1 ≤ k → length ss ≡ 8 → fitting.ends eqb Closed (take k ss) ≡ true → ⊥
-    none_left zero ss a b e = omega arith
-    none_left (suc k) [] a b e = omega arith
-    none_left (suc k) (s ∷ ss) a b e = true≢false (sym e)
+    none_left : (ss : List (Step ℕ)) → 1 ≤ length ss → fitting.ends eqb Closed ss ≡ true → ⊥
+    none_left [] some e = omega arith
+    none_left (s ∷ ss) some e = true≢false (sym e)
 
 -- ── options ──
 pub some_one : {A : Type 0} (x y : A) → Some x ≡ Some y → x ≡ y

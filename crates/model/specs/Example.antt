@@ -38,19 +38,19 @@ label a = record { deep = false; test = Name a }
 
 abbrev pub all : CodedPath
 all = record {
-  path = record { row = star ∷ star ∷ star ∷ star ∷ star ∷ star ∷ star ∷ star ∷ []; count = 1; full = refl; some = suc-le-suc zero-le; most = suc-le-suc zero-le; plain = refl };
+  path = record { steps = record { row = star ∷ star ∷ star ∷ star ∷ star ∷ star ∷ star ∷ star ∷ []; len = 1; full = refl; within = suc-le-suc zero-le }; some = suc-le-suc zero-le; plain = refl };
   codes = refl;
 }
 
 abbrev pub bank/slip : CodedPath
 bank/slip = record {
-  path = record { row = label 2 ∷ label 3 ∷ star ∷ star ∷ star ∷ star ∷ star ∷ star ∷ []; count = 2; full = refl; some = suc-le-suc zero-le; most = suc-le-suc (suc-le-suc zero-le); plain = refl };
+  path = record { steps = record { row = label 2 ∷ label 3 ∷ star ∷ star ∷ star ∷ star ∷ star ∷ star ∷ []; len = 2; full = refl; within = suc-le-suc (suc-le-suc zero-le) }; some = suc-le-suc zero-le; plain = refl };
   codes = refl;
 }
 
 abbrev pub bank/mark : CodedPath
 bank/mark = record {
-  path = record { row = label 2 ∷ label 4 ∷ star ∷ star ∷ star ∷ star ∷ star ∷ star ∷ []; count = 2; full = refl; some = suc-le-suc zero-le; most = suc-le-suc (suc-le-suc zero-le); plain = refl };
+  path = record { steps = record { row = label 2 ∷ label 4 ∷ star ∷ star ∷ star ∷ star ∷ star ∷ star ∷ []; len = 2; full = refl; within = suc-le-suc (suc-le-suc zero-le) }; some = suc-le-suc zero-le; plain = refl };
   codes = refl;
 }
 

@@ -6,3 +6,4 @@ pub mod Steps
 pub mod Derived
 pub mod Accepted
 pub mod ReadSoFar
+pub mod Sizes

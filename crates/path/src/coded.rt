@@ -5,6 +5,7 @@ ghost use Rattle.path.specs.Codes.{coded};
 
 use crate::path::Path;
 
+pub mod fault;
 pub mod make;
 
 // Each name in it is a label's code, which is at least 1.

@@ -20,10 +20,7 @@ const MOST: usize = 8;
 fn ends_at(text: &[u8], at: usize) -> bool
     ensures { result ≡ at_slash (drop at text.now) }
 {
-    if at >= text.len() {
-        return true;
-    }
-    text[at] == b'/'
+    matches!(text.get(at), None | Some(b'/'))
 }
 
 // Reads the step that the part begins with; beside it, where the step ends.
@@ -51,13 +48,10 @@ fn excess(classes: &Classes, part: Part) -> PathFault
     ensures { result ≡ excess classes.now part.entry.at (piece (bytes_of part.entry)) }
 {
     let at = part.at;
-    if at >= part.text.len() {
-        return PathFault::Empty(at);
-    }
-    match part.text[at] {
-        b'/' => PathFault::Empty(at),
-        b'*' => PathFault::Many(at),
-        byte => match classes.class_of(byte) {
+    match part.text.get(at) {
+        None | Some(b'/') => PathFault::Empty(at),
+        Some(b'*') => PathFault::Many(at),
+        Some(byte) => match classes.class_of(*byte) {
             Class::Begins => PathFault::Many(at),
             Class::Follows | Class::Outside => PathFault::Name(NameFault {
                 cause: NameCause::Byte,
@@ -93,15 +87,14 @@ fn read_next(
     ensures steps { steps_after classes.now count part.entry.at (bytes_of part.entry) ≡ goes_on (λ end. steps_after classes.now (suc count) end (drop end part.entry.text.now)) result }
     ensures ends { EndsWell count part.entry.at part.entry.text.now result }
 {
-    let text = part.text;
     match first_token(part) {
         Token::Child => Ok(Some(read_behind(
             classes,
             count,
             false,
             Part {
-                text,
                 at: part.at + 1,
+                ..part
             },
         )?)),
         Token::Deep => Ok(Some(read_behind(
@@ -109,8 +102,8 @@ fn read_next(
             count,
             true,
             Part {
-                text,
                 at: part.at + 2,
+                ..part
             },
         )?)),
         _ => Ok(None),
@@ -126,20 +119,14 @@ pub fn read_path(classes: &Classes, part: Part) -> Result<Path<Name>, PathFault>
     let mut path = Path::one(first.test);
     let mut at = end;
     loop {
-        let next = match read_next(
-            classes,
-            path.len(),
-            Part {
-                text: part.text,
-                at,
-            },
-        ) {
+        let next = match read_next(classes, path.len(), Part { at, ..part }) {
             Ok(next) => next,
             Err(fault) => break Err(fault),
         };
         let Some((step, end)) = next else {
             break Ok(path);
         };
+        // There is room: no ninth step is read.
         let _ = path.push(step);
         at = end;
     }

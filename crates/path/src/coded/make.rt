@@ -1,10 +1,12 @@
 // Making a path over label codes, step by step.
-ghost use Rattle.std.specs.Prelude.{◌≡◌, false, ◌&&◌, [], ◌∷◌, ◌++◌, length, if◌then◌else◌, Some, None, nat_lt};
+ghost use Rattle.std.specs.Prelude.{◌≡◌, false, [], ◌∷◌, ◌++◌, length, if◌then◌else◌, is_ok, Some, None, Ok, Err, nat_lt};
 ghost use Rattle.std.specs.Option.{option_map};
+ghost use Rattle.path.specs.declared.coded.fault.StepFault.TheVariants.{Code, Many};
 ghost use Rattle.path.specs.Codes.{coded, is_coded};
 ghost use Rattle.path.specs.CodedPaths.{code_steps};
 
 use crate::coded::CodedPath;
+use crate::coded::fault::StepFault;
 use crate::path::Path;
 use crate::step::{Step, Test};
 
@@ -31,11 +33,14 @@ impl CodedPath {
         })
     }
 
-    // One step more, where there are not eight yet and its code is not 0.
-    pub fn push(&mut self, step: Step<u16>) -> bool
-        ensures answer { result ≡ (is_coded step.test && nat_lt (length (code_steps self.old)) 8) }
-        ensures after { code_steps self.new ≡ (if result then code_steps self.old ++ step ∷ [] else code_steps self.old) }
+    // One step more, where its code is not 0 and there are not eight yet.
+    pub fn push(&mut self, step: Step<u16>) -> Result<(), StepFault>
+        ensures answer { result ≡ (if is_coded step.test then (if nat_lt (length (code_steps self.old)) 8 then Ok tt else Err Many) else Err Code) }
+        ensures after { code_steps self.new ≡ (if is_ok result then code_steps self.old ++ step ∷ [] else code_steps self.old) }
     {
-        is_coded(step.test) && self.path.push(step)
+        if !is_coded(step.test) {
+            return Err(StepFault::Code);
+        }
+        Ok(self.path.push(step)?)
     }
 }

@@ -1,35 +1,28 @@
 // The steps of a path.
-ghost use Rattle.std.specs.Prelude.{◌≡◌, ◌≤◌, false, [], ◌∷◌, ◌++◌, length, if◌then◌else◌, nat_lt};
+ghost use Rattle.std.specs.Prelude.{◌≡◌, ◌≤◌, false, [], ◌∷◌, ◌++◌, length, if◌then◌else◌, is_ok, Ok, Err, nat_lt};
 ghost use Rattle.path.specs.Paths.{steps_of};
 
 use crate::path::Path;
 use crate::step::{Step, Test};
-use std::alloc::AllocError;
-
-const MOST: usize = 8;
+use bounded::{Bounded, Full};
 
 impl<L: Copy> Path<L> {
     // The path of one step.
     pub fn one(test: Test<L>) -> Path<L>
         ensures { steps_of result ≡ record { deep = false; test = test } ∷ [] }
     {
+        let first = Step { deep: false, test };
         Path {
-            row: [Step { deep: false, test }; 8],
-            count: 1,
+            steps: Bounded::copied(first, &[first]),
         }
     }
 
     // One step more, where there are not eight yet.
-    pub fn push(&mut self, step: Step<L>) -> bool
-        ensures answer { result ≡ nat_lt (length (steps_of self.old)) 8 }
-        ensures after { steps_of self.new ≡ (if result then steps_of self.old ++ step ∷ [] else steps_of self.old) }
+    pub fn push(&mut self, step: Step<L>) -> Result<(), Full>
+        ensures answer { result ≡ (if nat_lt (length (steps_of self.old)) 8 then Ok tt else Err (record {})) }
+        ensures after { steps_of self.new ≡ (if is_ok result then steps_of self.old ++ step ∷ [] else steps_of self.old) }
     {
-        if self.count >= MOST {
-            return false;
-        }
-        self.row[self.count] = step;
-        self.count += 1;
-        true
+        self.steps.push(step)
     }
 }
 
@@ -39,23 +32,12 @@ impl<L> Path<L> {
         ensures value { result ≡ length (steps_of self.now) }
         ensures bound { (1 ≤ result) × (result ≤ 8) }
     {
-        self.steps().len()
+        self.steps.len()
     }
 
     pub fn steps(&self) -> &[Step<L>]
         ensures { result.now ≡ steps_of self.now }
     {
-        let row = &self.row[..];
-        &row[0..self.count]
-    }
-}
-
-impl<L: Copy> Clone for Path<L> {
-    ghost is_clone = { λ x y. y ≡ x };
-
-    ghost is_infallible = { λ _. Unit {0} };
-
-    fn clone(&self) -> Result<Path<L>, AllocError> {
-        Ok(*self)
+        self.steps.as_slice()
     }
 }

@@ -1,4 +1,4 @@
-use Rattle.std.proofs.Common.{◌≡◌, ℕ, suc, false, List, [], ◌∷◌, ◌++◌, length, drop, Some, Ok, Err, Result, sym, refl, ap, ◌∙◌, subst}
+use Rattle.std.proofs.Common.{◌≡◌, ℕ, suc, false, List, [], ◌∷◌, ◌++◌, length, drop, Some, is_ok, Ok, Err, Result, sym, refl, ap, ◌∙◌, subst}
 use Rattle.std.proofs.lemmas.Result.{err_from_is_err_and}
 use Rattle.std.proofs.lemmas.Bool.{cond-true, lt-ltb}
 use Rattle.byte_classes.specs.declared.classes.Classes.{Classes}
@@ -45,7 +45,7 @@ loop-next-preserved c =
     let well : EndsWell (length qs) at text (Ok (Some (s, end))) = subst (EndsWell (length qs) at text) some (subst (λ (n : ℕ). EndsWell n at text (Ok c.in-Ok.next)) count c.in-Ok.ensures.ends) in
     let read : steps_after k c.len.result at (drop at text) ≡ goes_on (λ end. steps_after k (suc c.len.result) end (drop end text)) (Ok c.in-Ok.next) = c.in-Ok.ensures.steps in
     let next = subst (λ (n : ℕ). steps_after k n at (drop at text) ≡ goes_on (λ end. steps_after k (suc n) end (drop end text)) (Ok c.in-Ok.next)) count read ∙ ap (goes_on (λ end. steps_after k (suc (length qs)) end (drop end text))) some in
-    let pushed : steps_of c.push.new.self ≡ qs ++ s ∷ [] = c.push.ensures.after ∙ cond-true _ _ _ (c.push.ensures.answer ∙ lt-ltb _ _ well.0) in
+    let pushed : steps_of c.push.new.self ≡ qs ++ s ∷ [] = c.push.ensures.after ∙ cond-true _ _ _ (ap is_ok (c.push.ensures.answer ∙ cond-true _ _ _ (lt-ltb _ _ well.0))) in
     let S = read_path k p.at (bytes_of p) in
     (subst (λ (us : List (Step Name)). ReadTo k text S us end) (sym pushed) (next_read k text S qs at s end c.loop-next.invariant.0 next), well.2, well.3)
 

@@ -1,4 +1,4 @@
-use Rattle.std.proofs.Common.{◌≡◌, ℕ, true, cond, List, [], ◌∷◌, ◌++◌, sym, ap, ◌∙◌}
+use Rattle.std.proofs.Common.{◌≡◌, ℕ, true, cond, List, [], ◌∷◌, ◌++◌, is_ok, sym, ap, ◌∙◌}
 use Rattle.std.proofs.lemmas.Bool.{and_from, and_parts, cond_both}
 use Rattle.path.specs.declared.step.Step.{Step}
 use Rattle.path.specs.Codes.{coded, is_coded}
@@ -14,6 +14,7 @@ invariant_of-self c =
     let qs = steps_of c.args.self.now.path in
     let s = c.args.step in
     let whole = c.args.self.now.codes in
-    let named : is_coded s.test ≡ true = sym c.if-is_coded.ensures in
-    let kept : coded (cond c.push.result (qs ++ s ∷ []) qs) ≡ true = cond_both c.push.result (qs ++ s ∷ []) qs (λ (xs : List (Step ℕ)). coded xs ≡ true) (λ e. coded_push qs s whole named) (λ e. whole) in
+    let named : is_coded s.test ≡ true = sym c.if-not-is_coded.ensures in
+    let pushed = is_ok c.push.result in
+    let kept : coded (cond pushed (qs ++ s ∷ []) qs) ≡ true = cond_both pushed (qs ++ s ∷ []) qs (λ (xs : List (Step ℕ)). coded xs ≡ true) (λ e. coded_push qs s whole named) (λ e. whole) in
     record { codes = ap coded c.push.ensures.after ∙ kept }
