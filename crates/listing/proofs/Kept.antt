@@ -3,6 +3,8 @@ use Rattle.std.proofs.Common.{◌≡◌, ℕ, suc, ◌+◌, ◌<◌, ◌≤◌, 
 use Rattle.std.specs.List.{insert, remove}
 use Rattle.std.proofs.lemmas.Bool.{cond-true, or_left, eq-eqb}
 use Rattle.std.proofs.lemmas.Bool.Decides.{nat_tests}
+use Rattle.tree.specs.declared.record.Record.{Record}
+use Rattle.tree.specs.Stores.{Meaning}
 use Rattle.tree.specs.Records.{has, distinct, child_of, is_parent, fresh, tagged, without, sorted}
 use Rattle.tree.specs.Calls.{first_root, may_place, place_after, tag_after, may_discard, discard_after}
 use Rattle.tree.proofs.Rising.{rises_sorted}
@@ -15,6 +17,10 @@ use Rattle.listing.specs.RowsLemmas.{length_records}
 use Rattle.listing.proofs.Changes.{records_below, nested_below, rooted_below, records_removed, nested_removed, rooted_removed, marked, records_marked, nested_marked, rooted_marked}
 use Rattle.listing.proofs.Leaves.{leaf_childless, inner_parent}
 use Rattle.listing.specs.Asked.{length_records_of, may_place_listed, within_listed, name_listed, has_listed, has_row}
+
+-- what a store with this limit means, by its records
+abbrev pub with_limit : ℕ → List Record → Meaning
+with_limit most rs = record { records = rs; most = most }
 
 pub record Well (most : ℕ) (rows : List Row) : Type 0 where
   pub nests : nested 0 0 rows ≡ true

@@ -1,3 +1,4 @@
 pub mod Changes
 pub mod Leaves
 pub mod Kept
+pub mod Searched

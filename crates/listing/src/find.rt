@@ -1,5 +1,6 @@
 // What is found in the rows: a name, a row's parent and record, the seat of a new row, a leaf.
-ghost use Rattle.std.specs.Prelude.{◌≡◌, ◌-◌, ◌<◌, ◌≤◌, take, vec_len, slice_index_or};
+ghost use Rattle.std.specs.Prelude.{◌≡◌, ◌-◌, ◌<◌, ◌≤◌, nat_lt, map, filter, min, take, vec_len, slice_index_or};
+ghost use Rattle.std.specs.List.{reduce};
 ghost use Rattle.tree.specs.declared.record.Record.{Record};
 ghost use Rattle.listing.specs.Rows.{path_on, listed, leaf_at, Found, SeatFor};
 
@@ -12,12 +13,18 @@ impl Listing {
     pub(crate) fn find(&self, name: u64) -> Option<usize>
         ensures answer { Found self.now.rows.items name result }
     {
-        for (i, row) in self.rows.as_slice().iter().enumerate() {
-            if row.name == name {
-                return Some(i);
-            }
-        }
-        None
+        self.rows.iter().position(|row| row.name == name)
+    }
+
+    // The least name of a row that is greater than `name`.
+    pub(crate) fn least_over(&self, name: u64) -> Option<u64>
+        ensures answer { result ≡ reduce min (filter (nat_lt name) (map (λ row. row.name) self.now.rows.items)) }
+    {
+        self.rows
+            .iter()
+            .map(|row| row.name)
+            .filter(|next| name < *next)
+            .min()
     }
 
     // The parent of a row at this place and depth: the nearest earlier row one level up.
@@ -26,13 +33,11 @@ impl Listing {
         ensures answer { result ≡ path_on (λ _. 0) (take index self.now.rows.items) (depth - 1) }
     {
         let level = depth.saturating_sub(1);
-        for i in (0..index).rev() {
-            let row = self.rows[i];
-            if row.depth == level {
-                return row.name;
-            }
-        }
-        ROOT
+        self.rows[..index]
+            .iter()
+            .rev()
+            .find(|row| row.depth == level)
+            .map_or(ROOT, |row| row.name)
     }
 
     pub(crate) fn record_at(&self, index: usize) -> Record
@@ -61,7 +66,7 @@ impl Listing {
                 depth,
             });
         }
-        if self.rows.len() == 0 && name == ROOT && parent == ROOT {
+        if self.rows.is_empty() && name == ROOT && parent == ROOT {
             return Some(Seat { index: 0, depth: 0 });
         }
         None

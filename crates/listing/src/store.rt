@@ -11,11 +11,9 @@ use tree::{Record, Refused, Store};
 impl Store for Listing {
     const LARGEST: usize = 512;
 
-    ghost records = { λ s. records_of s.rows.items };
+    ghost LARGEST = { 512 };
 
-    ghost most = { λ s. s.limit };
-
-    ghost top = { 512 };
+    ghost meaning = { λ s. record { records = records_of s.rows.items; most = s.limit } };
 
     ghost rising = { λ s. rises_sorted (listed s.rows.items) s.apart };
 
@@ -45,24 +43,12 @@ impl Store for Listing {
     }
 
     fn next_above(&self, name: u64) -> Option<u64> {
-        let mut nearest: Option<u64> = None;
-        for row in self.rows.as_slice() {
-            let nearer = match nearest {
-                Some(held) => row.name < held,
-                None => true,
-            };
-            if name < row.name && nearer {
-                nearest = Some(row.name);
-            }
-        }
-        nearest
+        self.least_over(name)
     }
 
     fn look(&self, name: u64) -> Option<Record> {
-        match self.find(name) {
-            Some(i) => Some(self.record_at(i)),
-            None => None,
-        }
+        let i = self.find(name)?;
+        Some(self.record_at(i))
     }
 
     fn place(&mut self, name: u64, parent: u64, label: u16) -> Result<(), Refused> {
@@ -99,7 +85,7 @@ impl Store for Listing {
         if !self.is_leaf(i) {
             return Err(Refused);
         }
-        let _ = self.rows.remove(i);
+        self.rows.remove(i);
         Ok(())
     }
 }

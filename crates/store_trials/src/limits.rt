@@ -6,15 +6,11 @@ use tree::{ROOT, Store};
 
 // Whether an empty store takes as many children of the root as its limit says, and no more.
 fn fills<S: Store>(store: &mut S, limit: usize) -> bool {
-    if store.limit() != limit {
-        return false;
-    }
-    for i in 0..limit {
-        if store.place(i as u64, ROOT, 1).is_err() {
-            return false;
-        }
-    }
-    store.count() == limit && store.place(limit as u64, ROOT, 1).is_err() && store.count() == limit
+    store.limit() == limit
+        && (0..limit).all(|i| store.place(i as u64, ROOT, 1).is_ok())
+        && store.count() == limit
+        && store.place(limit as u64, ROOT, 1).is_err()
+        && store.count() == limit
 }
 
 #[test]

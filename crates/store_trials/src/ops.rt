@@ -1,6 +1,6 @@
 // Operations on a store and their answers as values, so that one list runs on any store.
 use std::alloc::{AllocError, Global};
-use tree::Store;
+use tree::{Record, Refused, Store};
 
 #[derive(Clone, Copy)]
 pub enum Op {
@@ -23,24 +23,35 @@ pub enum Answer {
     Nothing,
 }
 
-pub fn ask<S: Store>(store: &mut S, op: Op) -> Answer {
-    match op {
-        Op::Place(name, parent, label) => done(store.place(name, parent, label).is_ok()),
-        Op::Tag(name, mark, note) => done(store.tag(name, mark, note).is_ok()),
-        Op::Discard(name) => done(store.discard(name).is_ok()),
-        Op::Look(name) => match store.look(name) {
-            Some(r) => Answer::Found(r.name, r.parent, r.label, r.mark, r.note),
-            None => Answer::Nothing,
-        },
-        Op::Next(name) => match store.next_above(name) {
-            Some(next) => Answer::Name(next),
-            None => Answer::Nothing,
-        },
+// What each kind of call gives back, as an answer.
+impl From<Result<(), Refused>> for Answer {
+    fn from(done: Result<(), Refused>) -> Answer {
+        done.map_or(Answer::Refused, |()| Answer::Done)
     }
 }
 
-fn done(ok: bool) -> Answer {
-    if ok { Answer::Done } else { Answer::Refused }
+impl From<Option<Record>> for Answer {
+    fn from(found: Option<Record>) -> Answer {
+        found.map_or(Answer::Nothing, |r| {
+            Answer::Found(r.name, r.parent, r.label, r.mark, r.note)
+        })
+    }
+}
+
+impl From<Option<u64>> for Answer {
+    fn from(name: Option<u64>) -> Answer {
+        name.map_or(Answer::Nothing, Answer::Name)
+    }
+}
+
+pub fn ask<S: Store>(store: &mut S, op: Op) -> Answer {
+    match op {
+        Op::Place(name, parent, label) => store.place(name, parent, label).into(),
+        Op::Tag(name, mark, note) => store.tag(name, mark, note).into(),
+        Op::Discard(name) => store.discard(name).into(),
+        Op::Look(name) => store.look(name).into(),
+        Op::Next(name) => store.next_above(name).into(),
+    }
 }
 
 // Every answer, in the order of the operations.
@@ -58,10 +69,5 @@ pub fn answers<S: Store>(
 
 // Whether each operation gets the answer beside it.
 pub fn expect<S: Store>(store: &mut S, steps: &[(Op, Answer)]) -> bool {
-    for (op, answer) in steps {
-        if ask(store, *op) != *answer {
-            return false;
-        }
-    }
-    true
+    steps.iter().all(|(op, answer)| ask(store, *op) == *answer)
 }

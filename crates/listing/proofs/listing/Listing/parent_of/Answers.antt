@@ -1,20 +1,13 @@
-use Rattle.std.proofs.Common.{◌-◌, vec_items, arith}
-use Rattle.std.proofs.lemmas.Bool.Decides.{nat_tests}
-use Rattle.listing.specs.RowsLemmas.{path_back}
+use Rattle.std.proofs.Common.{rules, tests, eqb, take, ◌-◌, vec_items}
+use Rattle.std.proofs.lemmas.Iterator.Adapters.{YieldsList-from_rev_slice}
+use Rattle.std.proofs.lemmas.Iterator.Search.{find_from_yields_List}
+use Rattle.listing.proofs.Searched.{path_found}
 use Rattle.listing.proofs.listing.Listing.parent_of.Goals as goal
 
-pub returns-then-row-level : goal.returns-then-row-level
-returns-then-row-level c =
-    let v = c.args.self.now.rows in
-    let e = v.ok.0 in
-    let x = c.index-row.result.now in
-    let t = path_back (λ _. 0) (vec_items v) c.loop-i.i x (c.args.depth - 1) c.loop-i-test.true (omega arith) c.index-row.ensures in
-    record { answer = grind (arith, nat_tests) }
-
-pub loop-i-preserved : goal.loop-i-preserved
-loop-i-preserved c =
-    let v = c.args.self.now.rows in
-    let e = v.ok.0 in
-    let x = c.index-row.result.now in
-    let t = path_back (λ _. 0) (vec_items v) c.loop-i.i x (c.args.depth - 1) c.loop-i-test.true (omega arith) c.index-row.ensures in
-    grind (arith, nat_tests)
+pub returns : goal.returns
+returns c =
+    let rows = take c.args.index (vec_items c.args.self.now.rows) in
+    let d = c.args.depth - 1 in
+    let f = find_from_yields_List (λ r. eqb r.depth d) _ _ _ c.find.ensures.ran (YieldsList-from_rev_slice rows (cc)) (λ x b q k. search (rules, tests)) in
+    let t = path_found (λ _. 0) rows d in
+    search rules

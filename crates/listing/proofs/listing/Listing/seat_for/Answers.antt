@@ -1,4 +1,5 @@
-use Rattle.std.proofs.Common.{vec_items, arith}
+use Rattle.std.proofs.Common.{◌≡◌, length, vec_items, arith}
+use Rattle.std.proofs.lemmas.Bool.Decides.{nat_tests}
 use Rattle.std.proofs.lemmas.List.{nil_from_length}
 use Rattle.listing.specs.Rows.{first, behind}
 use Rattle.listing.specs.RowsLemmas.{depth_bound, name_read}
@@ -24,4 +25,5 @@ pub returns-then-parent-eq-ROOT : goal.returns-then-parent-eq-ROOT
 returns-then-parent-eq-ROOT c =
     let v = c.args.self.now.rows in
     let e = v.ok.0 in
-    record { answer = first (nil_from_length (vec_items v) (omega arith)) (omega arith) (omega arith) }
+    let none : length (vec_items v) ≡ 0 = grind (arith, nat_tests) in
+    record { answer = first (nil_from_length (vec_items v) none) (omega arith) (omega arith) }

@@ -7,14 +7,14 @@ use Rattle.listing.specs.Rows.{listed, records_of, new_row}
 use Rattle.listing.specs.Asked.{look_row}
 use Rattle.listing.proofs.store.ListingStore.look.Goals as goal
 
-pub returns-in-Some : goal.returns-in-Some
-returns-in-Some c =
+pub returns : goal.returns
+returns c =
     let s = c.args.self.now in
-    let f = c.in-Some.ensures.answer in
-    let t = look_row (vec_items s.rows) c.in-Some.i c.args.name (new_row 0 0 0) (fresh 0 0 0) f.0 (f.1 (new_row 0 0 0)) s.apart in
+    let f = c.in_ok-i.ensures.answer in
+    let t = look_row (vec_items s.rows) c.in_ok-i.i c.args.name (new_row 0 0 0) (fresh 0 0 0) f.0 (f.1 (new_row 0 0 0)) s.apart in
     record { answer = ap (λ (r : Record). Some r) (c.record_at.ensures.answer (fresh 0 0 0)) ∙ sym t }
 
-pub returns-in-None : goal.returns-in-None
-returns-in-None c =
+pub returns-in_err-i : goal.returns-in_err-i
+returns-in_err-i c =
     let rows = vec_items c.args.self.now.rows in
-    record { answer = sym (look_absent c.args.name (records_of rows) (has_sorted c.args.name (listed rows) ∙ c.in-None.ensures.answer)) }
+    record { answer = c.from_residual.ensures ∙ sym (look_absent c.args.name (records_of rows) (has_sorted c.args.name (listed rows) ∙ c.in_err-i.ensures.answer)) }

@@ -1,4 +1,4 @@
-use Rattle.std.proofs.Common.{◌≡◌, true, false, ◌≢◌, length, is_ok, vec_items, sym, refl, ap, ◌∙◌, arith}
+use Rattle.std.proofs.Common.{◌≡◌, true, false, ◌≢◌, length, is_ok, vec_items, sym, ap, ◌∙◌, arith}
 use Rattle.std.specs.List.{insert}
 use Rattle.std.proofs.lemmas.Bool.{cond-false}
 use Rattle.std.proofs.lemmas.Bool.Decides.{nat_tests}
@@ -7,7 +7,7 @@ use Rattle.tree.specs.Calls.{answer_of, may_place}
 use Rattle.listing.specs.Rows.{listed, records_of, new_row}
 use Rattle.listing.specs.RowsLemmas.{length_records}
 use Rattle.listing.specs.Asked.{found_has, may_place_listed}
-use Rattle.listing.proofs.Kept.{well, seat_within, may_placed, records_placed, well_placed}
+use Rattle.listing.proofs.Kept.{with_limit, well, seat_within, may_placed, records_placed, well_placed}
 use Rattle.listing.proofs.store.ListingStore.place.Goals as goal
 use Rattle.listing.proofs.store.ListingStore.place.Goals.{After-insert, then-label-eq0-via-then-label-eq0, then-label-eq0-via-else-label-eq0+then-len-self, then-label-eq0-via-else-label-eq0+else-len-self+then-is_some}
 
@@ -25,7 +25,7 @@ returns-then-label-eq0 c =
       | then-label-eq0-via-else-label-eq0+else-len-self+then-is_some w ↦
           (let h = found_has rows c.args.name w.find.result w.find.ensures.answer in grind (arith, nat_tests))
     ] in
-    record { answer = sym (ap answer_of f); after = sym (cond-false _ _ _ f); same = refl }
+    record { answer = sym (ap answer_of f); after = ap (with_limit c.args.self.now.limit) (sym (cond-false _ _ _ f)) }
 
 pub returns-in_default : goal.returns-in_default
 returns-in_default c =
@@ -34,7 +34,7 @@ returns-in_default c =
     let m = may_place_listed s.limit c.args.name c.args.parent c.args.label rows in
     let g = c.in_default.ensures.answer in
     let f : may_place s.limit c.args.name c.args.parent c.args.label (records_of rows) ≡ false = m ∙ grind (arith, nat_tests) in
-    record { answer = sym (ap answer_of f); after = sym (cond-false _ _ _ f); same = refl }
+    record { answer = sym (ap answer_of f); after = ap (with_limit c.args.self.now.limit) (sym (cond-false _ _ _ f)) }
 
 pub insert-requires : goal.insert-requires
 insert-requires c =
@@ -77,6 +77,5 @@ returns c =
     let seat = c.in-Some.ensures.answer in
     record {
       answer = sym (ap answer_of (may_placed s.limit c.args.name c.args.parent c.args.label rows (vec_items c.insert.new.self) (well s) k.new k.label k.room seat k.items));
-      after = records_placed s.limit c.args.name c.args.parent c.args.label rows (vec_items c.insert.new.self) (well s) k.new k.label k.room seat k.items;
-      same = refl;
+      after = ap (with_limit s.limit) (records_placed s.limit c.args.name c.args.parent c.args.label rows (vec_items c.insert.new.self) (well s) k.new k.label k.room seat k.items);
     }

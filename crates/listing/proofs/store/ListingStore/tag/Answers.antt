@@ -1,18 +1,18 @@
-use Rattle.std.proofs.Common.{◌≡◌, false, vec_items, sym, refl, ap, ◌∙◌}
+use Rattle.std.proofs.Common.{◌≡◌, false, vec_items, sym, ap, ◌∙◌}
 use Rattle.std.proofs.lemmas.Bool.{cond-false}
 use Rattle.tree.specs.Records.{has, fresh}
 use Rattle.tree.specs.Calls.{answer_of}
 use Rattle.tree.proofs.Sorting.{has_sorted}
 use Rattle.listing.specs.Rows.{listed, records_of}
 use Rattle.listing.specs.Asked.{has_row}
-use Rattle.listing.proofs.Kept.{well, records_tagged, well_tagged}
+use Rattle.listing.proofs.Kept.{with_limit, well, records_tagged, well_tagged}
 use Rattle.listing.proofs.store.ListingStore.tag.Goals as goal
 
 pub returns-in_default : goal.returns-in_default
 returns-in_default c =
     let rows = vec_items c.args.self.now.rows in
     let f : has c.args.name (records_of rows) ≡ false = has_sorted c.args.name (listed rows) ∙ c.in_default.ensures.answer in
-    record { answer = sym (ap answer_of f); after = sym (cond-false _ _ _ f); same = refl }
+    record { answer = sym (ap answer_of f); after = ap (with_limit c.args.self.now.limit) (sym (cond-false _ _ _ f)) }
 
 pub invariant_of-self : goal.invariant_of-self
 invariant_of-self c =
@@ -31,6 +31,5 @@ returns c =
     let there = has_row rows c.in-Some.i c.args.name r (fresh 0 0 0) f.0 (f.1 r) in
     record {
       answer = sym (ap answer_of there);
-      after = records_tagged s.limit c.args.name c.args.mark c.args.note c.in-Some.i rows r (well s) f.0 c.index-row.ensures (f.1 r);
-      same = refl;
+      after = ap (with_limit s.limit) (records_tagged s.limit c.args.name c.args.mark c.args.note c.in-Some.i rows r (well s) f.0 c.index-row.ensures (f.1 r));
     }
