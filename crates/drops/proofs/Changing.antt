@@ -1,10 +1,12 @@
 -- A change of all records, one by one as a walk meets them.
 use Rattle.std.proofs.Common.{◌≡◌, ℕ, ◌<◌, ◌≤◌, Bool, true, false, cond, eqb, ltb, leb, List, [], ◌∷◌, map, Some, None, Option, sym, refl, ap, ◌∙◌, inl, inr, arith}
+use mathlib.Core.Path.{fun_ext}
 use Rattle.std.proofs.lemmas.Bool.{true≢false, cond-true, cond-false, ne_eqb, le-leb, leb-true}
 use Rattle.std.proofs.lemmas.Bool.Decides.{nat_tests}
 use Rattle.tree.specs.declared.record.Record.{Record}
 use Rattle.tree.specs.Lists.{In}
-use Rattle.tree.specs.Records.{rises, next_name, with_tag}
+use Rattle.tree.specs.Records.{rises, next_name}
+use Rattle.tree.specs.Stores.{Meaning, holding}
 use Rattle.tree.specs.Walk.{name_after, passed}
 use Rattle.tree.proofs.Next.{next_greater}
 use Rattle.model.specs.Numbers.{member}
@@ -25,13 +27,17 @@ module _ (f : Record → Record) (keeps : (r : Record) → (f r).name ≡ r.name
   name_kept true r = keeps r
   name_kept false r = refl
 
-  pub after_changed : (last at : Option ℕ) (rs : List Record) → name_after at (changed last f rs) ≡ name_after at rs
+  after_changed : (last at : Option ℕ) (rs : List Record) → name_after at (changed last f rs) ≡ name_after at rs
   after_changed last None [] = refl
   after_changed last None (x ∷ xs) = ap (λ (n : ℕ). Some n) (name_kept (passed last x) x)
   after_changed last (Some n) [] = refl
   after_changed last (Some n) (x ∷ xs) =
       ap (λ (m : ℕ). cond (ltb n m) (Some m) (next_name n (changed last f xs))) (name_kept (passed last x) x)
       ∙ ap (λ (o : Option ℕ). cond (ltb n x.name) (Some x.name) o) (after_changed last (Some n) xs)
+
+  -- the name that follows is the one that followed in what the store held first
+  pub changed_next : (last : Option ℕ) (m t : Meaning) → t ≡ holding m (changed last f m.records) → name_after last m.records ≡ name_after last t.records
+  changed_next last m t e = sym (after_changed last last m.records) ∙ sym (ap (λ (k : Meaning). name_after last k.records) e)
 
   pub changed_none : (rs : List Record) → rs ≡ changed None f rs
   changed_none [] = refl
@@ -64,19 +70,10 @@ module _ (f : Record → Record) (keeps : (r : Record) → (f r).name ≡ r.name
   changed_all last rs e = all_in last rs (passed_all last rs e)
 
 -- ── marks ──
-abbrev pub cleared : List ℕ → Record → Record
-cleared ts r = cond (member r.mark ts) (with_mark r 0) r
-
-pub cleared_name : (ts : List ℕ) (r : Record) → (cleared ts r).name ≡ r.name
-cleared_name ts r = go (member r.mark ts)
+-- a mark that is chosen makes one of two records
+pub unmarked_is : (ts : List ℕ) → ◌≡◌ {A = Record → Record} (λ r. with_mark r (cond (member r.mark ts) 0 r.mark)) (λ r. cond (member r.mark ts) (with_mark r 0) r)
+unmarked_is ts = fun_ext (λ (r : Record). go r (member r.mark ts))
   where
-    go : (b : Bool) → (cond b (with_mark r 0) r).name ≡ r.name
-    go true = refl
-    go false = refl
-
-pub cleared_is : (ts : List ℕ) (r : Record) → with_tag (cond (member r.mark ts) 0 r.mark) r.note r ≡ cleared ts r
-cleared_is ts r = go (member r.mark ts)
-  where
-    go : (b : Bool) → with_tag (cond b 0 r.mark) r.note r ≡ cond b (with_mark r 0) r
-    go true = refl
-    go false = refl
+    go : (r : Record) (b : Bool) → with_mark r (cond b 0 r.mark) ≡ cond b (with_mark r 0) r
+    go r true = refl
+    go r false = refl

@@ -7,6 +7,7 @@ use Rattle.tree.specs.declared.record.Record.{Record}
 use Rattle.tree.specs.Lists.{In, some_of}
 use Rattle.tree.specs.Records.{over, rises, look, has, is_parent, without}
 use Rattle.tree.specs.Trees.{nodes, IsTree}
+use Rattle.tree.specs.Stores.{Meaning, holding}
 use Rattle.tree.specs.Calls.{answer_of, may_discard}
 use Rattle.tree.specs.Walk.{name_after, passed}
 use Rattle.tree.proofs.Members.{keep_from}
@@ -126,3 +127,6 @@ pub all_dropped : (f : Record → Bool) (rs ss : List Record) → rises ss ≡ t
     → ((r : Record) → In r ss → f r ≡ true → is_parent r.name ss ≡ true) → Downward f rs → ss ≡ left_by f rs
 all_dropped f rs ss u t left from none down =
     sym (left_all f ss (none_left f ss u t (λ r c i j. down r c (from r i) (from c j)) none)) ∙ left
+
+pub held : (m n : Meaning) (rs : List Record) → n.records ≡ rs → n.most ≡ m.most → n ≡ holding m rs
+held m n rs e f = λ z. record { records = e z; most = f z }

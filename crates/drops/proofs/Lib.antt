@@ -1,4 +1,4 @@
 pub mod Dropping
 pub mod Downwards
 pub mod Changing
-pub mod Places
+pub mod Forgotten

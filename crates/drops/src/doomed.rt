@@ -3,6 +3,7 @@ ghost use Rattle.std.specs.Prelude.{◌≡◌, not, ◌==◌, nat_eq};
 ghost use Rattle.tree.specs.Lists.{keep};
 ghost use Rattle.tree.specs.Names.{ticket_part};
 ghost use Rattle.model.specs.Numbers.{member};
+ghost use Rattle.tree.specs.Stores.{holding};
 ghost use Rattle.drops.specs.Doomed.{Downward};
 
 use crate::passes::drop_all;
@@ -25,8 +26,8 @@ impl Choice for MarkedBy {
 
 // Drops every record that the ticket has marked, where it has marked their children too.
 pub fn drop_marked<S: Store>(store: &mut S, ticket: u32)
-    ensures after { Downward (λ r. nat_eq r.mark ticket) (S.Store.records store.old) → S.Store.records store.new ≡ keep (λ r. not (r.mark == ticket)) (S.Store.records store.old) }
-    ensures same { S.Store.most store.new ≡ S.Store.most store.old }
+    ensures after { Downward (λ r. nat_eq r.mark ticket) (S.Store.meaning store.old).records → S.Store.meaning store.new ≡ holding (S.Store.meaning store.old) (keep (λ r. not (r.mark == ticket)) (S.Store.meaning store.old).records) }
+    ensures same { (S.Store.meaning store.new).most ≡ (S.Store.meaning store.old).most }
 {
     drop_all(store, &MarkedBy { ticket });
 }
@@ -35,12 +36,7 @@ pub fn drop_marked<S: Store>(store: &mut S, ticket: u32)
 pub fn is_among(ticket: u64, tickets: &[u32]) -> bool
     ensures { result ≡ member ticket tickets.now }
 {
-    for t in tickets {
-        if ticket == u64::from(*t) {
-            return true;
-        }
-    }
-    false
+    tickets.iter().any(|t| ticket == u64::from(*t))
 }
 
 // The records whose nodes one of the tickets has made.
@@ -59,8 +55,8 @@ impl<'a> Choice for MadeBy<'a> {
 
 // Drops every record whose node one of the tickets has made, where they have made their children too.
 pub fn drop_made<S: Store>(store: &mut S, tickets: &[u32])
-    ensures after { Downward (λ r. member (ticket_part r.name) tickets.now) (S.Store.records store.old) → S.Store.records store.new ≡ keep (λ r. not (member (ticket_part r.name) tickets.now)) (S.Store.records store.old) }
-    ensures same { S.Store.most store.new ≡ S.Store.most store.old }
+    ensures after { Downward (λ r. member (ticket_part r.name) tickets.now) (S.Store.meaning store.old).records → S.Store.meaning store.new ≡ holding (S.Store.meaning store.old) (keep (λ r. not (member (ticket_part r.name) tickets.now)) (S.Store.meaning store.old).records) }
+    ensures same { (S.Store.meaning store.new).most ≡ (S.Store.meaning store.old).most }
 {
     drop_all(store, &MadeBy { tickets });
 }

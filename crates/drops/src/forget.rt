@@ -1,36 +1,36 @@
 // Taking places out of the notes, when their tickets are gone.
-ghost use Rattle.std.specs.Prelude.{◌≡◌, ℕ, not, ◌&&◌, List, map, if◌then◌else◌, nat_eq};
-ghost use Rattle.words.specs.Words.{bit, word_of};
+ghost use Rattle.std.specs.Prelude.{◌≡◌, ℕ, List, map, refl};
+ghost use Rattle.words.specs.Words.{bit};
+ghost use Rattle.tree.specs.Stores.{holding};
 ghost use Rattle.model.specs.Numbers.{member};
 ghost use Rattle.model.specs.Changes.{forgets};
 ghost use Rattle.drops.specs.Forgetting.{forgets_word};
 
-use tree::{Store, following};
+use crate::retag::retag_all;
+use tree::{Record, Store};
+use walks::change::Change;
+use words::minus;
 
-fn cleared(note: u32, places: u32) -> u32
-    ensures { result ≡ word_of (λ i. bit note i && not (bit places i)) }
-{
-    note & !places
+// The places, taken out of the note.
+#[derive(Clone, Copy)]
+struct Forgetting {
+    places: u32,
 }
 
-fn forget_at<S: Store>(store: &mut S, places: u32, name: u64)
-    ensures after { S.Store.records store.new ≡ map (λ r. (if nat_eq r.name name then forgets_word places r else r)) (S.Store.records store.old) }
-    ensures same { S.Store.most store.new ≡ S.Store.most store.old }
-{
-    if let Some(record) = store.look(name) {
-        let _ = store.tag(name, record.mark, cleared(record.note, places));
+impl Change for Forgetting {
+    ghost changed = { λ c r. forgets_word c.places r };
+
+    ghost keeps = { λ c r. refl };
+
+    fn tags(&self, node: &Record) -> (u32, u32) {
+        (node.mark, minus(node.note, self.places))
     }
 }
 
 // The tickets at the places know no node any more.
 pub fn forget<S: Store>(store: &mut S, places: u32)
-    ensures after { S.Store.records store.new ≡ map (forgets_word places) (S.Store.records store.old) }
-    ensures listed { (ps : List ℕ) → ((i : ℕ) → bit places i ≡ member i ps) → S.Store.records store.new ≡ map (forgets ps) (S.Store.records store.old) }
-    ensures same { S.Store.most store.new ≡ S.Store.most store.old }
+    ensures after { S.Store.meaning store.new ≡ holding (S.Store.meaning store.old) (map (forgets_word places) (S.Store.meaning store.old).records) }
+    ensures listed { (ps : List ℕ) → ((i : ℕ) → bit places i ≡ member i ps) → S.Store.meaning store.new ≡ holding (S.Store.meaning store.old) (map (forgets ps) (S.Store.meaning store.old).records) }
 {
-    let mut last = None;
-    while let Some(name) = following(store, last) {
-        forget_at(store, places, name);
-        last = Some(name);
-    }
+    retag_all(store, &Forgetting { places });
 }

@@ -4,4 +4,5 @@
 pub mod doomed;
 pub mod forget;
 pub mod passes;
+pub mod retag;
 pub mod unmark;

@@ -1,10 +1,13 @@
 // Making nodes live again whose removers are withdrawn.
-ghost use Rattle.std.specs.Prelude.{◌≡◌, map, if◌then◌else◌, nat_eq};
+ghost use Rattle.std.specs.Prelude.{◌≡◌, map, if◌then◌else◌, refl};
+ghost use Rattle.tree.specs.Stores.{holding};
 ghost use Rattle.model.specs.Numbers.{member};
 ghost use Rattle.model.specs.Changes.{with_mark};
 
 use crate::doomed::is_among;
-use tree::{Store, following};
+use crate::retag::retag_all;
+use tree::{Record, Store};
+use walks::change::Change;
 
 // The mark that is left where the tickets are withdrawn.
 fn unmarked(mark: u32, tickets: &[u32]) -> u32
@@ -17,23 +20,25 @@ fn unmarked(mark: u32, tickets: &[u32]) -> u32
     }
 }
 
-fn unmark_at<S: Store>(store: &mut S, tickets: &[u32], name: u64)
-    ensures after { S.Store.records store.new ≡ map (λ r. (if nat_eq r.name name then (if member r.mark tickets.now then with_mark r 0 else r) else r)) (S.Store.records store.old) }
-    ensures same { S.Store.most store.new ≡ S.Store.most store.old }
-{
-    if let Some(record) = store.look(name) {
-        let _ = store.tag(name, unmarked(record.mark, tickets), record.note);
+// The tickets' marks, taken away.
+#[derive(Clone, Copy)]
+struct Unmarking<'a> {
+    tickets: &'a [u32],
+}
+
+impl<'a> Change for Unmarking<'a> {
+    ghost changed = { λ c r. with_mark r (if member r.mark c.tickets.now then 0 else r.mark) };
+
+    ghost keeps = { λ c r. refl };
+
+    fn tags(&self, node: &Record) -> (u32, u32) {
+        (unmarked(node.mark, self.tickets), node.note)
     }
 }
 
 // What the tickets have marked is live again.
 pub fn unmark<S: Store>(store: &mut S, tickets: &[u32])
-    ensures after { S.Store.records store.new ≡ map (λ r. (if member r.mark tickets.now then with_mark r 0 else r)) (S.Store.records store.old) }
-    ensures same { S.Store.most store.new ≡ S.Store.most store.old }
+    ensures after { S.Store.meaning store.new ≡ holding (S.Store.meaning store.old) (map (λ r. (if member r.mark tickets.now then with_mark r 0 else r)) (S.Store.meaning store.old).records) }
 {
-    let mut last = None;
-    while let Some(name) = following(store, last) {
-        unmark_at(store, tickets, name);
-        last = Some(name);
-    }
+    retag_all(store, &Unmarking { tickets });
 }

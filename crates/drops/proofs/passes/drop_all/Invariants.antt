@@ -6,9 +6,9 @@ use Rattle.drops.proofs.passes.drop_all.Given as goal
 
 abbrev pub invariant-loop : goal.invariant-loop
 invariant-loop g l =
-    (left_by (g.C.Choice.chosen l.choice) (g.S.Store.records l.store) ≡ left_by (g.C.Choice.chosen l.choice) (g.S.Store.records l.initial.store))
-    × ((r : Record) → In r (g.S.Store.records l.store) → In r (g.S.Store.records l.initial.store))
-    × (g.S.Store.most l.store ≡ g.S.Store.most l.initial.store)
+    (left_by (g.C.Choice.chosen l.choice) (g.S.Store.meaning l.store).records ≡ left_by (g.C.Choice.chosen l.choice) (g.S.Store.meaning l.initial.store).records)
+    × ((r : Record) → In r (g.S.Store.meaning l.store).records → In r (g.S.Store.meaning l.initial.store).records)
+    × ((g.S.Store.meaning l.store).most ≡ (g.S.Store.meaning l.initial.store).most)
 
 abbrev pub decreases-loop : goal.decreases-loop
-decreases-loop g l = length (g.S.Store.records l.store)
+decreases-loop g l = length (g.S.Store.meaning l.store).records

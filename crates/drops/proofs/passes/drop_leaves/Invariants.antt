@@ -5,8 +5,8 @@ use Rattle.drops.proofs.passes.drop_leaves.Given as goal
 
 abbrev pub invariant-loop-name : goal.invariant-loop-name
 invariant-loop-name g l =
-    Dropping (g.C.Choice.chosen l.choice) (g.S.Store.records l.initial.store) (g.S.Store.records l.store) l.last l.any
-    × (g.S.Store.most l.store ≡ g.S.Store.most l.initial.store)
+    Dropping (g.C.Choice.chosen l.choice) (g.S.Store.meaning l.initial.store).records (g.S.Store.meaning l.store).records l.last l.any
+    × ((g.S.Store.meaning l.store).most ≡ (g.S.Store.meaning l.initial.store).most)
 
 abbrev pub decreases-loop-name : goal.decreases-loop-name
-decreases-loop-name g l = length (ahead l.last (g.S.Store.records l.store))
+decreases-loop-name g l = length (ahead l.last (g.S.Store.meaning l.store).records)
