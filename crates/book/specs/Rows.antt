@@ -16,7 +16,7 @@ use Rattle.book.specs.declared.lock.LockRow.{LockRow}
 use Rattle.book.specs.declared.book.Book.{Book}
 
 abbrev pub lock_of : Lock → model.Lock CodedPath
-lock_of (Read n p) = read n p
+lock_of (Read q) = read q.top q.path
 lock_of (Write n f) = write n f
 
 abbrev pub row_of : LockRow → Held

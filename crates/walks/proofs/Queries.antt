@@ -1,5 +1,5 @@
 -- What a query finds, name by name as a walk meets them.
-use Rattle.std.proofs.Common.{◌≡◌, ℕ, zero, suc, ◌≤◌, Bool, true, false, cond, eqb, List, [], ◌∷◌, ◌++◌, map, length, set, Some, None, Option, sym, refl, ap, ◌∙◌, inl, inr, ⊎_elim, arith}
+use Rattle.std.proofs.Common.{◌≡◌, ℕ, zero, suc, ◌≤◌, Bool, true, false, cond, eqb, List, [], ◌∷◌, ◌++◌, map, length, Some, None, Option, sym, refl, ap, ◌∙◌, inl, inr, ⊎_elim, arith}
 use lib.ListN.{length-map}
 use Rattle.std.proofs.lemmas.Bool.{cases_Bool, cond-true, cond-false}
 use Rattle.path.specs.declared.coded.CodedPath.{CodedPath}
@@ -16,8 +16,7 @@ use Rattle.model.specs.Paths.{fits}
 use Rattle.model.specs.Ways.{find, step_up, way_from, way}
 use Rattle.model.specs.Rules.{fitting, query}
 use Rattle.model.proofs.Ways.{nothing_fits}
-use Rattle.walks.specs.Buffers.{filled}
-use Rattle.walks.proofs.Climbs.{find_tree, standing}
+use Rattle.walks.proofs.Climbs.{find_kept, standing}
 
 -- the names in rs of which f says yes
 abbrev pub names_of : (ℕ → Bool) → List Record → List ℕ
@@ -47,7 +46,7 @@ absent_unfit (suc k) ys n m p f = go (eqb m n) (eqb m 0) (find ys m) f
 marked_missed : (rs : List Record) (n : ℕ) (p : CodedPath) → rises rs ≡ true → (r : Record) → In r rs → live r ≡ false → finds rs n p r.name ≡ false
 marked_missed rs n p u r i e =
     absent_unfit (length (actual rs)) (actual rs) n r.name p
-    (find_tree false rs r.name u ∙ ap (standing false) (in_look rs r (rises_distinct rs u) i) ∙ ap (λ (b : Bool). cond b (Some (bare r)) None) e)
+    (find_kept live rs r.name u ∙ ap (standing live) (in_look rs r (rises_distinct rs u) i) ∙ ap (λ (b : Bool). cond b (Some (bare r)) None) e)
 
 -- ── the query ──
 live_names : (f : ℕ → Bool) (rs : List Record) → ((r : Record) → In r rs → live r ≡ false → f r.name ≡ false) → map (λ (y : Node). y.name) (keep (λ (y : Node). f y.name) (actual rs)) ≡ names_of f rs
@@ -104,10 +103,3 @@ found_few f last rs =
     let b = keep_length (λ (r : Record). f r.name) (visited last rs) in
     let c = visited_bound last rs in
     omega arith
-
--- ── in a buffer ──
-pub filled_more : (ns xs : List ℕ) (n : ℕ) → set (filled ns xs) (length ns) n ≡ filled (ns ++ (n ∷ [])) xs
-filled_more [] [] n = refl
-filled_more [] (x ∷ xs) n = refl
-filled_more (m ∷ ns) [] n = refl
-filled_more (m ∷ ns) (x ∷ xs) n = ap (λ (ys : List ℕ). m ∷ ys) (filled_more ns xs n)

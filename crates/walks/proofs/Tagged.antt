@@ -1,14 +1,16 @@
 -- Changes of tags, record by record.
-use Rattle.std.proofs.Common.{◌≡◌, ℕ, ◌+◌, ◌^◌, ◌<◌, Bool, true, false, cond, ◌||◌, eqb, List, [], ◌∷◌, ◌++◌, map, length, get_or, take, is_some, Some, None, sym, refl, ap, ◌∙◌, subst, arith}
+use Rattle.std.proofs.Common.{◌≡◌, ℕ, ◌+◌, ◌^◌, ◌<◌, Bool, true, false, cond, ◌||◌, eqb, ltb, List, [], ◌∷◌, ◌++◌, map, length, get_or, take, is_some, Some, None, sym, refl, ap, ◌∙◌, subst, arith}
+use lib.Bits.{bit_or}
 use Rattle.std.proofs.lemmas.List.{take_more}
 use Rattle.std.proofs.lemmas.Bool.{cond-true, eqb-true, true≢false}
 use Rattle.tree.specs.declared.record.Record.{Record}
 use Rattle.tree.specs.Records.{rises, look, has, over, with_tag, tagged}
+use Rattle.tree.specs.Stores.{Meaning, holding}
 use Rattle.tree.specs.Calls.{tag_after}
 use Rattle.tree.proofs.Look.{look_has, tagged_absent}
 use Rattle.tree.proofs.Rising.{rises_parts, over_absent}
 use Rattle.model.specs.Numbers.{member}
-use Rattle.model.specs.Changes.{learns}
+use Rattle.walks.specs.Changes.{learns_at}
 use Rattle.walks.proofs.Words.{or_twice}
 
 -- rs with the change f at the record n
@@ -44,16 +46,17 @@ tag_changes n m w f r rs u e h = cond-true (has n rs) (tagged n m w rs) rs (look
 pub none_changes : (n : ℕ) (f : Record → Record) (rs : List Record) → look n rs ≡ None → rs ≡ changed_at n f rs
 none_changes n f rs e = changed_absent n f rs (ap is_some e)
 
--- ── what a ticket learns, name by name ──
-abbrev pub taught : ℕ → List ℕ → List Record → List Record
-taught i ns rs = map (λ (r : Record). cond (member r.name ns) (learns i r) r) rs
+-- a change of what a store holds, after one before
+pub holding_on : (m t n : Meaning) (xs : List Record) (h : List Record → List Record) → t ≡ holding m xs → n ≡ holding t (h t.records) → n ≡ holding m (h xs)
+holding_on m t n xs h e s = s ∙ ap (λ (k : Meaning). holding k (h k.records)) e
 
-pub taught_none : (i : ℕ) (rs : List Record) → rs ≡ taught i [] rs
-taught_none i [] = refl
-taught_none i (r ∷ rs) = ap (λ (xs : List Record). r ∷ xs) (taught_none i rs)
+-- ── a change that makes no difference when it is made again, name by name ──
+abbrev pub changed_in : List ℕ → (Record → Record) → List Record → List Record
+changed_in ns f rs = map (λ (r : Record). cond (member r.name ns) (f r) r) rs
 
-learns_twice : (i : ℕ) (r : Record) → learns i (learns i r) ≡ learns i r
-learns_twice i r = ap (λ (w : ℕ). with_tag r.mark w r) (or_twice (2 ^ i) r.note)
+pub changed_in_none : (f : Record → Record) (rs : List Record) → rs ≡ changed_in [] f rs
+changed_in_none f [] = refl
+changed_in_none f (r ∷ rs) = ap (λ (xs : List Record). r ∷ xs) (changed_in_none f rs)
 
 member_last : (n y : ℕ) (ns : List ℕ) → member n (ns ++ (y ∷ [])) ≡ (member n ns || eqb n y)
 member_last n y [] = or_none (eqb n y)
@@ -67,20 +70,27 @@ member_last n y (m ∷ ns) = ap (λ (b : Bool). eqb n m || b) (member_last n y n
     assoc true = refl
     assoc false = refl
 
-taught_one : (i y : ℕ) (ns : List ℕ) (rs : List Record) → changed_at y (learns i) (taught i ns rs) ≡ taught i (ns ++ (y ∷ [])) rs
-taught_one i y ns [] = refl
-taught_one i y ns (r ∷ rs) =
-    ap (λ (x : Record). x ∷ changed_at y (learns i) (taught i ns rs)) (one (member r.name ns) ∙ sym (ap (λ (b : Bool). cond b (learns i r) r) (member_last r.name y ns)))
-    ∙ ap (λ (xs : List Record). cond (member r.name (ns ++ (y ∷ []))) (learns i r) r ∷ xs) (taught_one i y ns rs)
+module _ (f : Record → Record) (keeps : (r : Record) → (f r).name ≡ r.name) (twice : (r : Record) → f (f r) ≡ f r) where
+  in_one : (y : ℕ) (ns : List ℕ) (rs : List Record) → changed_at y f (changed_in ns f rs) ≡ changed_in (ns ++ (y ∷ [])) f rs
+  in_one y ns [] = refl
+  in_one y ns (r ∷ rs) =
+      ap (λ (x : Record). x ∷ changed_at y f (changed_in ns f rs)) (one (member r.name ns) ∙ sym (ap (λ (b : Bool). cond b (f r) r) (member_last r.name y ns)))
+      ∙ ap (λ (xs : List Record). cond (member r.name (ns ++ (y ∷ []))) (f r) r ∷ xs) (in_one y ns rs)
+    where
+      again : (b : Bool) → cond b (f (f r)) (f r) ≡ f r
+      again true = twice r
+      again false = refl
+
+      one : (b : Bool) → cond (eqb (cond b (f r) r).name y) (f (cond b (f r) r)) (cond b (f r) r) ≡ cond (b || eqb r.name y) (f r) r
+      one true = again (eqb (f r).name y)
+      one false = refl
+
+  pub changed_in_more : (k : ℕ) (names : List ℕ) (rs : List Record) → k < length names → changed_at (get_or names k 0) f (changed_in (take k names) f rs) ≡ changed_in (take (k + 1) names) f rs
+  changed_in_more k names rs lt = in_one (get_or names k 0) (take k names) rs ∙ ap (λ (ns : List ℕ). changed_in ns f rs) (sym (take_more names k 0 lt))
+
+pub learns_twice : (i : ℕ) (r : Record) → learns_at i (learns_at i r) ≡ learns_at i r
+learns_twice i r = ap (λ (w : ℕ). with_tag r.mark w r) (go (ltb i 32))
   where
-    again : (b : Bool) → cond b (learns i (learns i r)) (learns i r) ≡ learns i r
-    again true = learns_twice i r
-    again false = refl
-
-    one : (b : Bool) → cond (eqb (cond b (learns i r) r).name y) (learns i (cond b (learns i r) r)) (cond b (learns i r) r) ≡ cond (b || eqb r.name y) (learns i r) r
-    one true = again (eqb r.name y)
-    one false = refl
-
-pub taught_more : (i k : ℕ) (names : List ℕ) (rs ts us : List Record) → k < length names → ts ≡ taught i (take k names) rs → us ≡ changed_at (get_or names k 0) (learns i) ts → us ≡ taught i (take (k + 1) names) rs
-taught_more i k names rs ts us lt e h =
-    h ∙ (ap (changed_at (get_or names k 0) (learns i)) e ∙ (taught_one i (get_or names k 0) (take k names) rs ∙ ap (λ (ns : List ℕ). taught i ns rs) (sym (take_more names k 0 lt))))
+    go : (b : Bool) → cond b (bit_or (2 ^ i) (cond b (bit_or (2 ^ i) r.note) r.note)) (cond b (bit_or (2 ^ i) r.note) r.note) ≡ cond b (bit_or (2 ^ i) r.note) r.note
+    go true = or_twice (2 ^ i) r.note
+    go false = refl

@@ -1,8 +1,8 @@
--- Names in a buffer. Assumes nothing.
---     filled ns xs      the buffer xs with the names ns at its start, as far as there is room
-use Rattle.std.specs.Prelude.{ℕ, List, [], ◌∷◌}
+-- Lists in a buffer. Assumes nothing.
+--     filled ns xs      the buffer xs with the items ns at its start, as far as there is room
+use Rattle.std.specs.Prelude.{List, [], ◌∷◌}
 
-abbrev pub filled : List ℕ → List ℕ → List ℕ
+abbrev pub filled : {A : Type 0} → List A → List A → List A
 filled [] xs = xs
 filled (n ∷ ns) [] = []
 filled (n ∷ ns) (x ∷ xs) = n ∷ filled ns xs

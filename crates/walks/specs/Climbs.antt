@@ -1,16 +1,10 @@
 -- What a climb asks of a way. Assumes nothing.
---     tree_of all rs        the tree of all records, or of the live ones only
 --     fits_then w e p ls    there is a way w, and its labels, then ls, with the ending e fit the path p
-use Rattle.std.specs.Prelude.{ℕ, Bool, false, cond, List, ◌++◌, Some, None, Option, nat_eq}
+use Rattle.std.specs.Prelude.{ℕ, Bool, false, List, ◌++◌, Some, None, Option, nat_eq}
 use Rattle.path.specs.declared.coded.CodedPath.{CodedPath}
 use Rattle.path.specs.CodedPaths.{code_steps}
 use Rattle.fitting.specs.declared.fit.Ending.{Ending}
 use Rattle.fitting.specs.Fitting as fitting
-use Rattle.tree.specs.declared.record.Record.{Record}
-use Rattle.tree.specs.Trees.{Node, nodes, actual}
-
-abbrev pub tree_of : Bool → List Record → List Node
-tree_of all rs = cond all (nodes rs) (actual rs)
 
 abbrev pub fits_then : Option (List ℕ) → Ending → CodedPath → List ℕ → Bool
 fits_then None e p ls = false

@@ -1,5 +1,5 @@
 pub mod Climbs
 pub mod Buffers
-pub mod Overlaid
 pub mod Hits
 pub mod Choices
+pub mod Changes

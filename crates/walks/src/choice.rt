@@ -20,7 +20,7 @@ pub trait Choice {
 
 // Whether the store has a record of this name, and it is chosen.
 pub fn chosen_at<S: Store, C: Choice>(store: &S, choice: &C, name: u64) -> bool
-    ensures { result ≡ chosen_at (C.Choice.chosen choice.now) (look name (S.Store.records store.now)) }
+    ensures { result ≡ chosen_at (C.Choice.chosen choice.now) (look name (S.Store.meaning store.now).records) }
 {
     match store.look(name) {
         Some(node) => choice.is_chosen(&node),
@@ -30,7 +30,7 @@ pub fn chosen_at<S: Store, C: Choice>(store: &S, choice: &C, name: u64) -> bool
 
 // Whether the store has a record that is chosen.
 fn has_chosen<S: Store, C: Choice>(store: &S, choice: &C) -> bool
-    ensures { result ≡ some_of (C.Choice.chosen choice.now) (S.Store.records store.now) }
+    ensures { result ≡ some_of (C.Choice.chosen choice.now) (S.Store.meaning store.now).records }
 {
     let mut last = None;
     while let Some(name) = following(store, last) {
@@ -57,7 +57,7 @@ impl Choice for LiveChild {
 }
 
 pub fn has_live_child<S: Store>(store: &S, name: u64) -> bool
-    ensures answer { result ≡ some_of (child_of name) (actual (S.Store.records store.now)) }
+    ensures answer { result ≡ some_of (child_of name) (actual (S.Store.meaning store.now).records) }
 {
     has_chosen(store, &LiveChild { parent: name })
 }
@@ -79,7 +79,7 @@ impl Choice for Touched {
 
 // Whether a scheduler whose first ticket is `first` can begin with the store.
 pub fn fit_for<S: Store>(store: &S, first: u32) -> bool
-    ensures answer { result ≡ all_of (untouched first) (S.Store.records store.now) }
+    ensures answer { result ≡ all_of (untouched first) (S.Store.meaning store.now).records }
 {
     !has_chosen(store, &Touched { first })
 }

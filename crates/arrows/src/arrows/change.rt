@@ -1,30 +1,10 @@
 // Arrows that come and go.
-ghost use Rattle.std.specs.Prelude.{◌≡◌, ℕ, false, not, ◌&&◌, ◌||◌, length, ◌==◌, nat_lt};
+ghost use Rattle.std.specs.Prelude.{◌≡◌, ℕ, false, not, ◌&&◌, ◌||◌, ◌==◌, nat_lt};
 ghost use Rattle.words.specs.Words.{bit};
-ghost use Rattle.arrows.specs.Between.{arrow_of, between};
+ghost use Rattle.arrows.specs.Between.{between};
 
 use crate::arrows::Arrows;
-use words::has;
-
-// The places of `word` that are not in `gone`.
-fn without(word: u32, gone: u32) -> u32
-    ensures { (k : ℕ) → bit result k ≡ (bit word k && not (bit gone k)) }
-{
-    word & !gone
-}
-
-fn cut_rows(into: &mut [u32; 32], places: u32)
-    ensures long { length into.new ≡ 32 }
-    ensures after { (i j : ℕ) → arrow_of into.new i j ≡ (arrow_of into.old i j && not (bit places i) && not (bit places j)) }
-{
-    for q in 0..32 {
-        if has(places, q) {
-            into[q] = 0;
-        } else {
-            into[q] = without(into[q], places);
-        }
-    }
-}
+use words::{has, minus};
 
 impl Arrows {
     // No arrow.
@@ -47,6 +27,12 @@ impl Arrows {
     pub fn cut(&mut self, places: u32)
         ensures { (i j : ℕ) → between self.new i j ≡ (between self.old i j && not (bit places i) && not (bit places j)) }
     {
-        cut_rows(&mut self.into, places);
+        for (place, sources) in self.into.iter_mut().enumerate() {
+            *sources = if has(places, place) {
+                0
+            } else {
+                minus(*sources, places)
+            };
+        }
     }
 }

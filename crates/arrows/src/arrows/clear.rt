@@ -14,9 +14,9 @@ impl Arrows {
         ensures { (i : ℕ) → bit result i ≡ (bit among i && not (some_of (λ j. between self.now j i && bit among j) places)) }
     {
         let mut clear = among;
-        for q in 0..32 {
-            if self.into[q] & among != 0 {
-                clear = without(clear, q);
+        for (place, sources) in self.into.iter().enumerate() {
+            if *sources & among != 0 {
+                clear = without(clear, place);
             }
         }
         clear

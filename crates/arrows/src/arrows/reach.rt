@@ -3,25 +3,25 @@ ghost use Rattle.std.specs.Prelude.{◌≡◌, ℕ, ◌&&◌, List, nat_lt};
 ghost use Rattle.words.specs.Words.{bit};
 ghost use Rattle.model.specs.Numbers.{member};
 ghost use Rattle.model.specs.Arrows.{wider, reached, ring, arrow_into};
-ghost use Rattle.arrows.specs.Between.{arrow_of, between};
+ghost use Rattle.arrows.specs.Between.{between};
 
 use crate::arrows::Arrows;
 use words::with;
 
-// The places of `seen`, and those to which an arrow goes from one of them.
-fn widen(into: &[u32; 32], seen: u32) -> u32
-    ensures { (ps : List ℕ) → ((q : ℕ) → bit seen q ≡ member q ps) → (q : ℕ) → bit result q ≡ member q (wider (arrow_of into.now) ps) }
-{
-    let mut next = seen;
-    for q in 0..32 {
-        if into[q] & seen != 0 {
-            next = with(next, q);
-        }
-    }
-    next
-}
-
 impl Arrows {
+    // The places of `seen`, and those to which an arrow goes from one of them.
+    fn widen(&self, seen: u32) -> u32
+        ensures { (ps : List ℕ) → ((q : ℕ) → bit seen q ≡ member q ps) → (q : ℕ) → bit result q ≡ member q (wider (between self.now) ps) }
+    {
+        let mut next = seen;
+        for (place, sources) in self.into.iter().enumerate() {
+            if *sources & seen != 0 {
+                next = with(next, place);
+            }
+        }
+        next
+    }
+
     // The places that are reached from `place`, itself among them; none where it is no place.
     pub fn reach(&self, place: usize) -> u32
         ensures { (q : ℕ) → bit result q ≡ (nat_lt place 32 && member q (reached (between self.now) place)) }
@@ -30,8 +30,8 @@ impl Arrows {
             return 0;
         }
         let mut seen = with(0, place);
-        for round in 0..32u32 {
-            let next = widen(&self.into, seen);
+        for _ in 0..32u32 {
+            let next = self.widen(seen);
             if next == seen {
                 return seen;
             }

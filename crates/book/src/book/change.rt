@@ -5,48 +5,31 @@ ghost use Rattle.tree.specs.Lists.{keep};
 ghost use Rattle.book.specs.Rows.{row_of, held_of, rows_for};
 
 use crate::book::Book;
-use crate::lock::{Lock, LockRow};
+use crate::lock::{Claim, LockRow};
 use words::has;
 
 // A row for each of the locks, at the end.
-fn append(rows: &mut Vec<LockRow>, holder: usize, locks: &[Lock])
-    requires { (holder < 32) × (vec_len rows.old + length locks.now ≤ vec_capacity rows.old) }
-    ensures after { map row_of rows.new.items ≡ map row_of rows.old.items ++ rows_for holder locks.now }
-    ensures len { vec_len rows.new ≡ vec_len rows.old + length locks.now }
+fn append(rows: &mut Vec<LockRow>, claim: Claim)
+    requires { (claim.place < 32) × (vec_len rows.old + length claim.locks.now ≤ vec_capacity rows.old) }
+    ensures after { map row_of rows.new.items ≡ map row_of rows.old.items ++ rows_for claim.entry.place claim.entry.locks.now }
+    ensures len { vec_len rows.new ≡ vec_len rows.old + length claim.entry.locks.now }
     ensures capacity { vec_capacity rows.new ≡ vec_capacity rows.old }
 {
-    for lock in locks {
+    for lock in claim.locks {
         rows.push_reserved(LockRow {
-            holder,
+            holder: claim.place,
             lock: *lock,
         });
     }
 }
 
-// Keeps the rows whose holder is not in `places`, in their sequence.
-fn filter(rows: &mut Vec<LockRow>, places: u32)
-    ensures after { rows.new.items ≡ keep (λ h. not (bit places h.holder)) rows.old.items }
-    ensures len { vec_len rows.new ≤ vec_len rows.old }
-    ensures capacity { vec_capacity rows.new ≡ vec_capacity rows.old }
-{
-    let mut to = 0;
-    for i in 0..rows.len() {
-        let row = rows[i];
-        if !has(places, row.holder) {
-            rows[to] = row;
-            to += 1;
-        }
-    }
-    rows.truncate(to);
-}
-
 impl Book {
-    // The ticket at `place` takes all the locks; none where it is no place or there are fewer free rows.
-    pub fn grant(&mut self, place: usize, locks: &[Lock])
-        ensures { held_of self.new ≡ held_of self.old ++ (if nat_lt place 32 && not (nat_lt 256 (length (held_of self.old) + length locks.now)) then rows_for place locks.now else []) }
+    // The ticket takes all the locks of its claim; none where its place is none or there are fewer free rows.
+    pub fn grant(&mut self, claim: Claim)
+        ensures { held_of self.new ≡ held_of self.old ++ (if nat_lt claim.entry.place 32 && not (nat_lt 256 (length (held_of self.old) + length claim.entry.locks.now)) then rows_for claim.entry.place claim.entry.locks.now else []) }
     {
-        if place < 32 && self.has_room(locks.len()) {
-            append(&mut self.rows, place, locks);
+        if claim.place < 32 && self.has_room(claim.locks.len()) {
+            append(&mut self.rows, claim);
         }
     }
 
@@ -54,6 +37,6 @@ impl Book {
     pub fn free(&mut self, places: u32)
         ensures { held_of self.new ≡ keep (λ h. not (bit places h.holder)) (held_of self.old) }
     {
-        filter(&mut self.rows, places);
+        self.rows.retain(|row| !has(places, row.holder));
     }
 }

@@ -11,9 +11,9 @@ loop-row-init g c = bit_none
 
 pub loop-row-preserved : goal.loop-row-preserved
 loop-row-preserved g c =
-    let ys = nodes (g.S.Store.records c.args.store.now) in
-    let p = c.args.place in
-    let ls = map lock_of c.args.locks.now in
+    let ys = nodes (g.S.Store.meaning c.args.store.now).records in
+    let p = c.args.claim.place in
+    let ls = map lock_of c.args.claim.locks.now in
     let rows = c.rows-row-items.result.now in
     let k = c.loop-row.row-index in
     let w = c.loop-row.word in
@@ -29,5 +29,5 @@ loop-row-preserved g c =
 
 pub returns : goal.returns
 returns g c =
-    rows_all (nodes (g.S.Store.records c.args.store.now)) c.args.place (map lock_of c.args.locks.now) c.rows-row-items.result.now
+    rows_all (nodes (g.S.Store.meaning c.args.store.now).records) c.args.claim.place (map lock_of c.args.claim.locks.now) c.rows-row-items.result.now
     c.loop-row.row-index c.loop-row.word (held_of c.args.book.now) c.loop-row-test.false c.rows-row-items.ensures c.loop-row.invariant

@@ -5,4 +5,4 @@ use Rattle.rivals.proofs.Rows.{Rivals}
 use Rattle.rivals.proofs.rivals.Given as goal
 
 abbrev pub invariant-loop-row : goal.invariant-loop-row
-invariant-loop-row g l = Rivals (nodes (g.S.Store.records l.store)) l.place (map lock_of l.locks) l.row-items l.row-index l.word
+invariant-loop-row g l = Rivals (nodes (g.S.Store.meaning l.store).records) l.claim.place (map lock_of l.claim.locks.now) l.row-items l.row-index l.word

@@ -1,6 +1,6 @@
 // Making and reading what is found.
 ghost use Rattle.std.specs.Prelude.{◌≡◌, [], length, IfOk};
-ghost use Rattle.walks.specs.Overlaid.{overlaid};
+ghost use Rattle.walks.specs.Buffers.{filled};
 ghost use Rattle.walks.specs.Hits.{hit_names};
 
 use crate::fill::fill;
@@ -32,7 +32,7 @@ impl Hits {
 
     // Writes the names to the start of the buffer, as far as there is room.
     pub fn write(&self, buffer: &mut [u64])
-        ensures { buffer.new ≡ overlaid (hit_names self.now) buffer.old }
+        ensures { buffer.new ≡ filled (hit_names self.now) buffer.old }
     {
         fill(self.as_slice(), buffer);
     }

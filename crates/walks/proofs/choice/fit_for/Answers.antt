@@ -4,4 +4,4 @@ use Rattle.walks.proofs.Chosen.{not_some}
 use Rattle.walks.proofs.choice.fit_for.Goals as goal
 
 pub returns : goal.returns
-returns g c = record { answer = ap not c.has_chosen.ensures ∙ not_some (untouched c.args.first) (g.S.Store.records c.args.store.now) }
+returns g c = record { answer = ap not c.has_chosen.ensures ∙ not_some (untouched c.args.first) ((g.S.Store.meaning c.args.store.now).records) }

@@ -5,7 +5,7 @@ use Rattle.fitting.specs.Fitting.{Reads}
 use Rattle.walks.proofs.Climbs.{Climbing}
 use Rattle.walks.proofs.climb.climb.Given as goal
 
-abbrev pub invariant-loop-k : goal.invariant-loop-k
-invariant-loop-k g l =
-    let rs = g.S.Store.records l.store in
-    (e : Ending) (ls : List ℕ) → Reads eqb e (code_steps l.path) ls l.initial.left → Climbing l.all rs l.path e ls l.top l.at (length rs - l.k) l.node l.left
+abbrev pub invariant-loop : goal.invariant-loop
+invariant-loop g l =
+    let rs = (g.S.Store.meaning l.store).records in
+    (e : Ending) (ls : List ℕ) → Reads eqb e (code_steps l.query.path) ls l.initial.left → Climbing (g.C.Choice.chosen l.choice) rs l.query.path e ls l.query.top l.at (length rs - l.counter) l.node l.left

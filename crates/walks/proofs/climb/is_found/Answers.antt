@@ -7,5 +7,5 @@ use Rattle.walks.proofs.climb.is_found.Goals as goal
 
 pub returns : goal.returns
 returns g c =
-    let begun = c.begin.ensures in
-    record { answer = c.climb.ensures Closed [] begun ∙ query_ends (way (actual (g.S.Store.records c.args.store.now)) c.args.top c.args.at) c.args.path.now }
+    let begun = c.begin-places.ensures in
+    record { answer = c.climb.ensures Closed [] begun ∙ query_ends (way (actual ((g.S.Store.meaning c.args.store.now).records)) c.args.query.now.top c.args.at) c.args.query.now.path }

@@ -1,5 +1,5 @@
 use Rattle.std.proofs.Common.{◌≡◌, ℕ, ◌-◌, ◌++◌, take, drop, ap, ◌∙◌, arith}
-use Rattle.walks.proofs.Overlaid.{overlaid_front}
+use Rattle.walks.proofs.Buffers.{filled_front}
 use Rattle.walks.proofs.fill.fill.Goals as goal
 
 pub returns : goal.returns
@@ -10,4 +10,4 @@ returns g c =
     let all : n - 0 ≡ n = omega arith in
     ap (λ ys. ys ++ drop (n - 0) buffer) c.copy_from_slice.ensures.after
     ∙ (ap (λ (k : ℕ). take k items ++ drop k buffer) all
-    ∙ overlaid_front items buffer n c.min-count.ensures)
+    ∙ filled_front items buffer n c.min-count.ensures)

@@ -3,5 +3,5 @@ use lib.Bits.{bit_and}
 use Rattle.words.specs.Words.{bit}
 use Rattle.arrows.proofs.arrows.Arrows.clear_of.Given as goal
 
-abbrev pub invariant-loop-q : goal.invariant-loop-q
-invariant-loop-q l = (i : ℕ) → bit l.clear i ≡ (bit l.among i && not (ltb i l.q && not (eqb (bit_and (get_or l.self.into i 0) l.among) 0)))
+abbrev pub invariant-loop-place : goal.invariant-loop-place
+invariant-loop-place l = (i : ℕ) → bit l.clear i ≡ (bit l.among i && not (ltb i l.place && not (eqb (bit_and (get_or l.self.into i 0) l.among) 0)))

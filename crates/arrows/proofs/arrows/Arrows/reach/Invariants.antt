@@ -5,5 +5,5 @@ use Rattle.model.specs.Arrows.{widen}
 use Rattle.arrows.specs.Between.{between}
 use Rattle.arrows.proofs.arrows.Arrows.reach.Given as goal
 
-abbrev pub invariant-loop-round : goal.invariant-loop-round
-invariant-loop-round l = (q : ℕ) → bit l.seen q ≡ member q (widen l.round (between l.self) (l.place ∷ []))
+abbrev pub invariant-loop : goal.invariant-loop
+invariant-loop l = (q : ℕ) → bit l.seen q ≡ member q (widen l.counter (between l.self) (l.place ∷ []))

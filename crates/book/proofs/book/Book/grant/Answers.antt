@@ -17,14 +17,14 @@ pub append-requires : goal.append-requires
 append-requires c =
     let b = c.args.self.now in
     let room = b.room in
-    let few = few_enough b (length c.args.locks.now) c.has_room.result c.has_room.ensures c.if-has_room.true in
+    let few = few_enough b (length c.args.claim.locks.now) c.has_room.result c.has_room.ensures c.if-has_room.true in
     (omega arith, omega arith)
 
 pub invariant_of-self : goal.invariant_of-self
 invariant_of-self c =
     let b = c.args.self.now in
     let room = b.room in
-    let few = few_enough b (length c.args.locks.now) c.has_room.result c.has_room.ensures c.if-has_room.true in
+    let few = few_enough b (length c.args.claim.locks.now) c.has_room.result c.has_room.ensures c.if-has_room.true in
     let len = c.append.ensures.len in
     let cap = c.append.ensures.capacity in
     record { few = omega arith; room = omega arith }

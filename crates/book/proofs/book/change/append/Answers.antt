@@ -14,7 +14,7 @@ push_reserved-requires c =
 
 pub loop-lock-preserved : goal.loop-lock-preserved
 loop-lock-preserved c =
-    let p = c.args.holder in
+    let p = c.args.claim.place in
     let row : Lock → Held = λ l. record { holder = p; lock = lock_of l } in
     let first = map row_of (vec_items c.args.rows.now) in
     let i = c.loop-lock.lock-index in
@@ -24,15 +24,15 @@ loop-lock-preserved c =
       ap (map row_of) c.push_reserved.ensures.items
           ∙ (map_last row_of (vec_items c.loop-lock.rows) _
           ∙ (ap (λ (hs : List Held). hs ++ (row lock ∷ [])) c.loop-lock.invariant.0
-          ∙ append_more row first c.args.locks.now i lock c.loop-lock-test.true c.lock-item.is)),
+          ∙ append_more row first c.args.claim.locks.now i lock c.loop-lock-test.true c.lock-item.is)),
       omega arith,
       c.push_reserved.ensures.capacity ∙ c.loop-lock.invariant.2,
     )
 
 pub returns : goal.returns
 returns c =
-    let p = c.args.holder in
-    let locks = c.args.locks.now in
+    let p = c.args.claim.place in
+    let locks = c.args.claim.locks.now in
     let i = c.loop-lock.lock-index in
     let first = map row_of (vec_items c.args.rows.now) in
     let n : i ≡ length locks = omega arith in
