@@ -1,6 +1,6 @@
 pub mod Bests
 pub mod Sorting
-pub mod Pushed
+pub mod Drawing
 pub mod Taken
 pub mod Frees
 pub mod Turns

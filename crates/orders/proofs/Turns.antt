@@ -1,6 +1,6 @@
--- One turn after another of the order, by places as the code has it and by tickets as the model does.
+-- The order, drawn by places as the code has it and by tickets as the model does.
 -- Assumes nothing.
-use Rattle.std.proofs.Common.{◌≡◌, ℕ, suc, ◌+◌, ◌-◌, ◌<◌, ◌≤◌, Bool, true, false, not, ◌&&◌, eqb, List, [], ◌∷◌, map, Some, None, Option, sym, ap, ◌∙◌, arith}
+use Rattle.std.proofs.Common.{◌≡◌, ℕ, zero, suc, ◌<◌, ◌≤◌, Bool, true, false, not, ◌&&◌, eqb, List, [], ◌∷◌, map, Some, None, Option, sym, ap, ◌∙◌, arith}
 use Rattle.std.proofs.lemmas.Bool.{and_parts, and_from, not-true, not_from_false}
 use Rattle.std.proofs.lemmas.Bool.Decides.{nat_tests}
 use Rattle.tree.specs.Lists.{In, keep, some_of}
@@ -10,8 +10,10 @@ use Rattle.model.proofs.Keys.{keep_from, keep_to, map_from, map_to, some_true, t
 use Rattle.model.proofs.Order.{sorted_climbs}
 use Rattle.model.proofs.Reached.{place_to, sorted_from, sorted_to}
 use Rattle.arrows.proofs.Widened.{same_truth}
+use Rattle.words.specs.Words.{bit}
 use Rattle.orders.specs.Firsts.{Foremost}
-use Rattle.orders.proofs.Bests.{first_le}
+use Rattle.orders.specs.Draws.{Drawn}
+use Rattle.orders.proofs.Bests.{first_le, foremost_like}
 use Rattle.orders.proofs.Frees.{none_free, least_free}
 use Rattle.orders.proofs.Sorting.{but, keep_keep, keep_map, keep_sorted}
 
@@ -105,23 +107,28 @@ module _ (f seat : ℕ → ℕ) (between : ℕ → ℕ → Bool) (low : (i : ℕ
             side : (a : Bool) → (a ≡ true → f q ≡ f p → q ≡ p) → (q ≡ p → f q ≡ f p) → (a && not (eqb q p)) ≡ (a && not (eqb (f q) (f p)))
             side a h g = grind (arith, nat_tests)
 
-    -- ── the turns ──
-    pub turn_none : (n : ℕ) → n < 32 → Foremost (clear between left) f None → order_from (32 - n) (via between seat) (tickets_of f left) ≡ []
-    turn_none n lt none =
+    -- ── one turn ──
+    turn_none : (k : ℕ) → Foremost (clear between left) f None → order_from (suc k) (via between seat) (tickets_of f left) ≡ []
+    turn_none k none =
         let ts = tickets_of f left in
-        let k : 32 - n ≡ suc (32 - (n + 1)) = omega arith in
-        ap (λ (m : ℕ). order_from m (via between seat) ts) k
-        ∙ ap (λ (o : Option ℕ). and_then o (λ t. order_from (32 - (n + 1)) (via between seat) (keep (λ u. not (eqb u t)) ts))) (free_none none)
+        ap (λ (o : Option ℕ). and_then o (λ t. order_from k (via between seat) (keep (λ u. not (eqb u t)) ts))) (free_none none)
 
-    pub turn_more : (n p : ℕ) (next : ℕ → Bool) → n < 32 → Foremost (clear between left) f (Some p) → ((q : ℕ) → next q ≡ (left q && but p q))
-        → order_from (32 - n) (via between seat) (tickets_of f left) ≡ f p ∷ order_from (32 - (n + 1)) (via between seat) (tickets_of f next)
-    turn_more n p next lt first less =
+    turn_more : (k p : ℕ) (next : ℕ → Bool) → Foremost (clear between left) f (Some p) → ((q : ℕ) → next q ≡ (left q && but p q))
+        → order_from (suc k) (via between seat) (tickets_of f left) ≡ f p ∷ order_from k (via between seat) (tickets_of f next)
+    turn_more k p next first less =
         let ts = tickets_of f left in
-        let k : 32 - n ≡ suc (32 - (n + 1)) = omega arith in
         let t = (and_parts (left p) (not (some_of (λ j. between j p && left j) places)) first.0).0 in
-        ap (λ (m : ℕ). order_from m (via between seat) ts) k
-        ∙ (ap (λ (o : Option ℕ). and_then o (λ t. order_from (32 - (n + 1)) (via between seat) (keep (λ u. not (eqb u t)) ts))) (free_some p first)
-        ∙ ap (λ (xs : List ℕ). f p ∷ order_from (32 - (n + 1)) (via between seat) xs) (tickets_less p next t less))
+        ap (λ (o : Option ℕ). and_then o (λ t. order_from k (via between seat) (keep (λ u. not (eqb u t)) ts))) (free_some p first)
+        ∙ ap (λ (xs : List ℕ). f p ∷ order_from k (via between seat) xs) (tickets_less p next t less)
 
-pub turn_full : (n : ℕ) (arrow : ℕ → ℕ → Bool) (ts : List ℕ) → 32 ≤ n → order_from (32 - n) arrow ts ≡ []
-turn_full n arrow ts le = let k : 32 - n ≡ 0 = omega arith in ap (λ (m : ℕ). order_from m arrow ts) k
+  -- what is drawn of the places that are clear is the order
+  pub drawn_order : (choice : ℕ → ℕ → Type 0) → ((left chosen : ℕ) → choice left chosen → (q : ℕ) → bit chosen q ≡ clear between (bit left) q) → (k left : ℕ) (ts : List ℕ) → Held f (bit left) → Drawn choice f k left ts
+      → ts ≡ order_from k (via between seat) (tickets_of f (bit left))
+  unfolding Drawn
+  drawn_order choice free zero left ts held e = e
+  drawn_order choice free (suc k) left [] held (chosen, c, none) =
+      sym (turn_none (bit left) held k (foremost_like f (bit chosen) (clear between (bit left)) None (free left chosen c) none))
+  drawn_order choice free (suc k) left (t ∷ ts) held (chosen, p, next, c, first, e, less, rest) =
+      let begins = turn_more (bit left) held k p (bit next) (foremost_like f (bit chosen) (clear between (bit left)) (Some p) (free left chosen c) first) less in
+      let ih = drawn_order choice free k next ts (λ i h. held i (and_parts (bit left i) (but p i) (sym (less i) ∙ h)).0) rest in
+      ap (λ (u : ℕ). u ∷ ts) e ∙ (ap (λ (us : List ℕ). f p ∷ us) ih ∙ sym begins)

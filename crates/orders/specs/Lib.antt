@@ -1,2 +1,3 @@
 pub mod Firsts
 pub mod Opened
+pub mod Draws
