@@ -1,4 +1,4 @@
-use Rattle.std.proofs.Common.{◌≡◌, ℕ, ◌+◌, Bool, true, false, ◌&&◌, ◌||◌, eqb, ltb, length, get_or, sym, ap, ◌∙◌, arith, length-take}
+use Rattle.std.proofs.Common.{◌≡◌, ℕ, ◌+◌, Bool, true, false, ◌&&◌, ◌||◌, eqb, ltb, length, get_or, sym, ap, ◌∙◌, arith}
 use Rattle.std.proofs.lemmas.List.{get_or_default}
 use Rattle.std.proofs.lemmas.Bool.{lt-ltb}
 use Rattle.words.specs.Words.{bit}
@@ -6,6 +6,7 @@ use Rattle.words.proofs.Bits.{place_left, place_put}
 use Rattle.path.specs.declared.step.Step.{Step}
 use Rattle.path.specs.declared.step.Test.TheVariants.{Star}
 use Rattle.path.specs.Paths.{steps_of}
+use Rattle.path.proofs.Sizes.{most_steps}
 use Rattle.fitting.specs.Fitting.{takes}
 use Rattle.fitting.proofs.Places.{goes_back}
 use Rattle.fitting.proofs.backward.back.Goals as goal
@@ -22,8 +23,8 @@ loop-k-preserved g c j d =
     let stays = c.has-in-loop-k.ensures in
     let answer = c.takes.ensures in
     let tested : c.takes.result ≡ T k = cc in
-    let most = c.args.path.now.most in
-    let size = ap length c.steps-step-items.ensures ∙ length-take c.args.path.now.count c.args.path.now.row in
+    let most = most_steps c.args.path.now in
+    let size = ap length c.steps-step-items.ensures in
     let room : ltb k 32 ≡ true = lt-ltb _ _ (omega arith) in
     elim c.if-takes.branch [
       | then-takes x ↦
