@@ -3,7 +3,6 @@
 
 mod find;
 mod listing;
-mod make;
 mod row;
 mod store;
 

@@ -4,14 +4,18 @@ use linked::Linked;
 use listing::Listing;
 use std::alloc::Global;
 use std::test::Fail;
+use tree::Store;
 
 const PLACE_ROOT: Op = Op::Place(0, 0, 1);
 
+// Whether a store of this kind gives these answers.
+fn one<S: Store + Drop>(heap: Global, steps: &[(Op, Answer)]) -> Result<bool, Fail> {
+    Ok(expect(&mut S::new(heap, 8)?, steps))
+}
+
 // Whether both kinds of store give these answers.
 fn both(heap: Global, steps: &[(Op, Answer)]) -> Result<bool, Fail> {
-    let linked = expect(&mut Linked::new(heap, 8)?, steps);
-    let listing = expect(&mut Listing::new(heap, 8)?, steps);
-    Ok(linked && listing)
+    Ok(one::<Linked>(heap, steps)? && one::<Listing>(heap, steps)?)
 }
 
 #[test]

@@ -3,6 +3,7 @@ use crate::ops::{Answer, Op, answers};
 use linked::Linked;
 use listing::Listing;
 use std::test::Fail;
+use tree::Store;
 
 const SCRIPT: [Op; 34] = [
     // an empty store takes the root alone
