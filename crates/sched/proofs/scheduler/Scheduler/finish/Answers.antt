@@ -10,19 +10,18 @@ use Rattle.model.specs.Refusals.{first_row, finish_rows}
 use Rattle.model.specs.Calls.{step}
 use Rattle.desk.specs.States.{state, forgotten}
 use Rattle.desk.proofs.Rows.{judged}
-use Rattle.sched.specs.Whole.{Parts, state_of}
 use Rattle.sched.proofs.Reaching.{next_reached, marked_downward, one_more_fits}
 use Rattle.sched.proofs.Words.{one_place}
 use Rattle.sched.proofs.scheduler.Scheduler.finish.Goals as goal
 use Rattle.sched.proofs.scheduler.Scheduler.finish.Given.{Over}
 use Rattle.sched.proofs.scheduler.Scheduler.finish.Goals.{After-free}
 
-stepped : (g : Over) (c : After-free g) →
+ended_by : (g : Over) (c : After-free g) →
     let s = c.self.inside in
     let d = c.free.new.self in
     step (state (g.S.Store.records s.store) (g.S.Store.most s.store) s.desk) (finishes c.args.ticket)
     ≡ (state (g.S.Store.records c.forget.new.store) (g.S.Store.most c.forget.new.store) d, finished d.done)
-stepped g c =
+ended_by g c =
     let s = c.self.inside in
     let t = c.args.ticket in
     let rs = g.S.Store.records s.store in
@@ -43,8 +42,7 @@ stepped g c =
 
 pub invariant_of-self : goal.invariant_of-self
 invariant_of-self g c =
-    next_reached (finishes c.args.ticket) (finished c.free.new.self.done) (stepped g (goal.at.invariant_of-self g c).After-free) c.self.invariant
+    next_reached (finishes c.args.ticket) (finished c.free.new.self.done) (ended_by g (goal.at.invariant_of-self g c).After-free) c.self.invariant
 
 pub returns : goal.returns
-returns g c =
-    ap (λ (v : Parts). step (state_of v) (finishes c.args.ticket)) (sym c.self.view_is) ∙ stepped g (goal.at.returns g c).After-free
+returns g c = rw (← c.self.view_is) (ended_by g (goal.at.returns g c).After-free)
