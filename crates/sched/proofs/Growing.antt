@@ -1,11 +1,15 @@
--- The record of a new node, and the count of a ticket's additions.
+-- The record of a new node, the count of a ticket's additions, and what an addition leaves.
 use Rattle.std.proofs.Common.{◌≡◌, ℕ, suc, ◌^◌, ◌<◌, Bool, true, false, cond, ◌&&◌, ◌||◌, eqb, ltb, List, [], ◌∷◌, map, is_some, Some, sym, refl, ap, ◌∙◌, ⊎_elim, arith}
 use lib.Bits.{or_zero_r}
 use Rattle.std.proofs.lemmas.Bool.{true≢false, cases_eq, eq-eqb, ne_eqb, cond-true, cond-false, lt-ltb}
 use Rattle.tree.specs.declared.record.Record.{Record}
 use Rattle.tree.specs.Records.{look, has, fresh, placed}
 use Rattle.model.specs.Numbers.{member}
-use Rattle.model.specs.Changes.{learns, new_record}
+use Rattle.tree.specs.Names.{name_of}
+use Rattle.model.specs.Rules.{made}
+use Rattle.model.specs.Locks.{write}
+use Rattle.model.specs.Scheduler.{Model, place_of}
+use Rattle.model.specs.Changes.{learns, new_record, grant, grown}
 
 module _ (i x n a : ℕ) where
   taught : Record → Record
@@ -64,3 +68,15 @@ counted p f j low few = ⊎_elim
         none : (a c : Bool) → (a && false && c) ≡ false
         none true c = refl
         none false c = refl
+
+-- what an addition leaves, where the ticket's place is p and the new name is x
+pub grown_at : (m m' : Model) (t n a p x : ℕ) → p ≡ place_of m t → x ≡ name_of t (suc (m.added p))
+    → m' ≡ grant m p (write n (Some a) ∷ []) (placed (new_record p x n a) m.records) (λ j. cond (eqb j p) (suc (m.added p)) (m.added j))
+    → grown m t n a ≡ (m', made x)
+grown_at m m' t n a p x at named after = sym (λ z. (left (at z) (name z), made (name z))) ∙ (λ z. (sym after z, made x))
+  where
+    left : ℕ → ℕ → Model
+    left i y = grant m i (write n (Some a) ∷ []) (placed (new_record i y n a) m.records) (λ j. cond (eqb j i) (suc (m.added i)) (m.added j))
+
+    name : x ≡ name_of t (suc (m.added (place_of m t)))
+    name = named ∙ ap (λ (i : ℕ). name_of t (suc (m.added i))) at

@@ -1,6 +1,7 @@
 -- What a scheduler says. Assumes nothing.
---     whole records most s d     the state of a scheduler over the store s with the desk d
---     Reached m                  m is the state after some history, over a store that keeps the store meaning
+--     Parts            what a scheduler is made of: the records and the limit of its store, and its desk
+--     state_of v       the state of a scheduler with the parts v
+--     Reached m        m is the state after some history, over a store that keeps the store meaning
 use Rattle.std.specs.Prelude.{ℕ, List}
 use Rattle.tree.specs.declared.record.Record.{Record}
 use Rattle.model.specs.Scheduler.{Model, Making}
@@ -9,8 +10,13 @@ use Rattle.model.specs.Law.{Kept}
 use Rattle.desk.specs.declared.desk.Desk.{Desk}
 use Rattle.desk.specs.States.{state}
 
-abbrev pub whole : {S : Type 0} → (S → List Record) → (S → ℕ) → S → Desk → Model
-whole records most s d = state (records s) (most s) d
+pub record Parts : Type 0 where
+  pub records : List Record
+  pub limit : ℕ
+  pub desk : Desk
+
+abbrev pub state_of : Parts → Model
+state_of v = state v.records v.limit v.desk
 
 abbrev pub Reached : Model → Type 0
 Reached m = (mk : Making) × Kept mk × (h : History) × After mk h m

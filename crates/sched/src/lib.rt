@@ -1,5 +1,4 @@
 // The scheduler of a station, over a store of any kind.
 #![tactic(auto)]
 
-pub mod judging;
 pub mod scheduler;

@@ -1,13 +1,26 @@
-// A store, and what is kept beside it.
+// A store, and what is kept beside it: together a state that some history reaches.
 use desk::desk::Desk;
+use std::marker::Model;
 use tree::Store;
 
+pub mod judging;
 pub mod make;
 pub mod tickets;
 pub mod writes;
 
 #[derive(Drop)]
 pub struct Scheduler<S: Store> {
-    pub store: S,
-    pub desk: Desk,
+    store: S,
+    desk: Desk,
+}
+
+impl<S: Store> Model for Scheduler<S> {
+    ghost use Rattle.desk.specs.States.{state};
+    ghost use Rattle.sched.specs.Whole.{Parts, Reached};
+
+    ghost Value = { Parts };
+
+    ghost view = { λ s. record { records = S.Store.records s.store; limit = S.Store.most s.store; desk = s.desk } };
+
+    ghost invariant = { λ s. ∥ Reached (state (S.Store.records s.store) (S.Store.most s.store) s.desk) ∥₁ };
 }

@@ -3,7 +3,7 @@ ghost use Rattle.std.specs.Prelude.{◌≡◌};
 ghost use Rattle.model.specs.Scheduler.{opens, finishes};
 ghost use Rattle.model.specs.Calls.{step};
 ghost use Rattle.calls.specs.Answers.{open_answer, finish_answer};
-ghost use Rattle.sched.specs.Whole.{whole, Reached};
+ghost use Rattle.sched.specs.Whole.{state_of};
 
 use crate::scheduler::Scheduler;
 use calls::reason::Reason;
@@ -15,14 +15,14 @@ use words::with;
 impl<S: Store> Scheduler<S> {
     // Opens a transaction, and answers its ticket.
     pub fn open(&mut self) -> Result<u32, Reason>
-        ensures { step (whole S.Store.records S.Store.most self.old.store self.old.desk) opens ≡ (whole S.Store.records S.Store.most self.new.store self.new.desk, open_answer result) }
+        ensures { step (state_of self.old) opens ≡ (state_of self.new, open_answer result) }
     {
         self.desk.open()
     }
 
     // Ends a transaction for good, and answers its place among the finished ones.
     pub fn finish(&mut self, ticket: u32) -> Result<u32, Reason>
-        ensures { Reached (whole S.Store.records S.Store.most self.old.store self.old.desk) → step (whole S.Store.records S.Store.most self.old.store self.old.desk) (finishes ticket) ≡ (whole S.Store.records S.Store.most self.new.store self.new.desk, finish_answer result) }
+        ensures { step (state_of self.old) (finishes ticket) ≡ (state_of self.new, finish_answer result) }
     {
         let place = self.desk.place_to_finish(ticket)?;
         let places = with(0, place);

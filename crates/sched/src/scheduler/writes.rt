@@ -7,10 +7,9 @@ ghost use Rattle.model.specs.Refusals.{first_row, add_rows, remove_rows};
 ghost use Rattle.model.specs.Calls.{step};
 ghost use Rattle.calls.specs.Answers.{add_answer, remove_answer};
 ghost use Rattle.desk.specs.States.{refusal};
-ghost use Rattle.sched.specs.Whole.{whole, Reached};
+ghost use Rattle.sched.specs.Whole.{state_of};
 ghost use Rattle.sched.specs.Judging.{but_last, At};
 
-use crate::judging::{begins, rivals_of};
 use crate::scheduler::Scheduler;
 use book::lock::Lock;
 use calls::reason::Reason;
@@ -21,10 +20,10 @@ use walks::tags::{mark, teach};
 impl<S: Store> Scheduler<S> {
     // The place of the ticket, where all but a ring allows the add.
     fn may_add(&self, ticket: u32, node: u64, label: u16) -> Result<usize, Reason>
-        ensures rows { first_row (but_last (add_rows (whole S.Store.records S.Store.most self.now.store self.now.desk) ticket node label)) ≡ refusal result }
-        ensures place { IfOk result (At (whole S.Store.records S.Store.most self.now.store self.now.desk) ticket) }
+        ensures rows { first_row (but_last (add_rows (state_of self.now) ticket node label)) ≡ refusal result }
+        ensures place { IfOk result (At (state_of self.now) ticket) }
     {
-        let (place, _) = begins(&self.store, &self.desk, ticket, node)?;
+        let (place, _) = self.begins(ticket, node)?;
         if label == 0 {
             return Err(Reason::NoLabel);
         }
@@ -37,11 +36,11 @@ impl<S: Store> Scheduler<S> {
 
     // Makes a child of the node, and answers its name.
     pub fn add(&mut self, ticket: u32, node: u64, label: u16) -> Result<u64, Reason>
-        ensures { Reached (whole S.Store.records S.Store.most self.old.store self.old.desk) → (room : ℕ) → step (whole S.Store.records S.Store.most self.old.store self.old.desk) (acts room (adds ticket node label)) ≡ (whole S.Store.records S.Store.most self.new.store self.new.desk, add_answer result) }
+        ensures { (room : ℕ) → step (state_of self.old) (acts room (adds ticket node label)) ≡ (state_of self.new, add_answer result) }
     {
         let place = self.may_add(ticket, node, label)?;
         let locks = [Lock::Write(node, Some(label))];
-        let rivals = rivals_of(&self.store, &self.desk, place, &locks)?;
+        let rivals = self.rivals_of(place, &locks)?;
         // The count fits: a ticket's additions stay in the store while it is open.
         let count = self.desk.seats.added_at(place).saturating_add(1);
         let name = node_name(ticket, count);
@@ -54,11 +53,11 @@ impl<S: Store> Scheduler<S> {
 
     // The place of the ticket and the record of the node, where all but a ring allows the remove.
     fn may_remove(&self, ticket: u32, node: u64) -> Result<(usize, Record), Reason>
-        ensures rows { first_row (but_last (remove_rows (whole S.Store.records S.Store.most self.now.store self.now.desk) ticket node)) ≡ refusal result }
-        ensures place { IfOk result (λ v. At (whole S.Store.records S.Store.most self.now.store self.now.desk) ticket v.0) }
-        ensures node { IfOk result (λ v. look node (S.Store.records self.now.store) ≡ Some v.1) }
+        ensures rows { first_row (but_last (remove_rows (state_of self.now) ticket node)) ≡ refusal result }
+        ensures place { IfOk result (λ v. At (state_of self.now) ticket v.0) }
+        ensures node { IfOk result (λ v. look node self.now.records ≡ Some v.1) }
     {
-        let begun = begins(&self.store, &self.desk, ticket, node)?;
+        let begun = self.begins(ticket, node)?;
         if node == ROOT {
             return Err(Reason::Root);
         }
@@ -71,14 +70,14 @@ impl<S: Store> Scheduler<S> {
 
     // Takes the node out of the actual tree: it is marked, and dropped when the ticket finishes.
     pub fn remove(&mut self, ticket: u32, node: u64) -> Result<(), Reason>
-        ensures { (room : ℕ) → step (whole S.Store.records S.Store.most self.old.store self.old.desk) (acts room (removes ticket node)) ≡ (whole S.Store.records S.Store.most self.new.store self.new.desk, remove_answer result) }
+        ensures { (room : ℕ) → step (state_of self.old) (acts room (removes ticket node)) ≡ (state_of self.new, remove_answer result) }
     {
         let (place, record) = self.may_remove(ticket, node)?;
         let locks = [
             Lock::Write(node, None),
             Lock::Write(record.parent, Some(record.label)),
         ];
-        let rivals = rivals_of(&self.store, &self.desk, place, &locks)?;
+        let rivals = self.rivals_of(place, &locks)?;
         mark(&mut self.store, node, ticket);
         self.desk.grant(place, &locks, rivals);
         Ok(())

@@ -1,23 +1,28 @@
-use Rattle.std.proofs.Common.{◌≡◌, ℕ, suc, ◌+◌, ◌<◌, ◌≤◌, Bool, true, false, cond, not, ◌&&◌, ◌||◌, eqb, ltb, List, [], ◌∷◌, map, length, is_some, Some, None, Option, sym, refl, ap, ◌∙◌, arith}
+use Rattle.std.proofs.Common.{◌≡◌, ℕ, suc, ◌+◌, ◌<◌, ◌≤◌, Bool, true, false, cond, not, ◌&&◌, ◌||◌, eqb, ltb, List, [], ◌∷◌, map, length, is_some, Some, None, Option, refl, ap, ◌∙◌, arith}
+use mathlib.Core.Bool.{Bool-set}
+use Rattle.std.specs.Coded.{le_prop}
 use Rattle.std.proofs.lemmas.Bool.{ltb-false, leb-false, ne_eqb, cond-true, true≢false}
 use Rattle.path.specs.declared.coded.CodedPath.{CodedPath}
 use Rattle.tree.specs.declared.record.Record.{Record}
 use Rattle.tree.specs.Names.{name_of}
 use Rattle.tree.specs.Records.{look, has, fresh, placed}
-use Rattle.tree.specs.Calls.{first_root, may_place, place_after}
+use Rattle.tree.specs.Calls.{first_root, may_place}
 use Rattle.model.specs.Numbers.{member}
 use Rattle.model.specs.Rules.{adds, made}
 use Rattle.model.specs.Locks.{Lock, write}
-use Rattle.model.specs.Scheduler.{Model, place_of}
+use Rattle.model.specs.Scheduler.{Model, acts, place_of}
 use Rattle.model.specs.Changes.{new_record, learns, grant, grown}
 use Rattle.model.specs.Refusals.{unknown, add_rows}
+use Rattle.model.specs.Calls.{step}
 use Rattle.desk.specs.States.{state}
 use Rattle.desk.proofs.Rows.{passed, judged}
 use Rattle.desk.proofs.States.{same_state}
 use Rattle.sched.specs.Judging.{but_last}
-use Rattle.sched.proofs.Reaching.{reached_healthy, next_name_new, few_added}
+use Rattle.sched.proofs.Reaching.{next_reached, from_health, next_name_new, few_added}
 use Rattle.sched.proofs.Acting.{no_row}
-use Rattle.sched.proofs.Growing.{made_known, counted}
+use Rattle.sched.proofs.Growing.{made_known, counted, grown_at}
+use Rattle.sched.proofs.scheduler.Scheduler.add.Given.{Over}
+use Rattle.sched.proofs.scheduler.Scheduler.add.Goals.{After-count_up}
 use Rattle.sched.proofs.scheduler.Scheduler.add.Goals as goal
 
 not_false : (b : Bool) → not b ≡ false → b ≡ true
@@ -32,9 +37,13 @@ placeable : (limit x n a : ℕ) (rs : List Record) → has x rs ≡ false → eq
 placeable limit x n a rs new label free there =
     λ z. not (new z) && (not (label z) && (not (ne_eqb (length rs) limit (omega arith) z) && (there z || first_root x n rs)))
 
-pub returns : goal.returns
-returns g c go room =
-    let s = c.args.self.now in
+made_by : (g : Over) (c : After-count_up g) (room : ℕ) →
+    let s = c.self.inside in
+    let d = c.grant.new.self in
+    step (state (g.S.Store.records s.store) (g.S.Store.most s.store) s.desk) (acts room (adds c.args.ticket c.args.node c.args.label))
+    ≡ (state (g.S.Store.records c.teach.new.store) (g.S.Store.most c.teach.new.store) (record { seats = c.count_up.new.self; book = d.book; arrows = d.arrows; next = d.next; done = d.done; fit = d.fit }), made c.node_name-name.result)
+made_by g c room =
+    let s = c.self.inside in
     let t = c.args.ticket in
     let n = c.args.node in
     let a = c.args.label in
@@ -42,34 +51,39 @@ returns g c go room =
     let limit = g.S.Store.most s.store in
     let m = state rs limit s.desk in
     let p = c.in_ok-place.place in
-    let at = c.in_ok-place.ensures.place in
     let ls : List (Lock CodedPath) = write n (Some a) ∷ [] in
-    let front = c.in_ok-place.ensures.rows in
+    let at = rw (← c.self.view_is) at c.in_ok-place.ensures.place in
+    let front = rw (← c.self.view_is) at c.in_ok-place.ensures.rows in
+    let apart = rw (← c.self.view_is) at (c.in_ok-rivals.ensures.rows at.low) in
+    let found = rw (← c.self.view_is) at c.in_ok-rivals.ensures.rivals in
     let tests = passed (but_last (add_rows m t n a)) front in
-    let none = no_row m t (adds t n a) p ls at.place refl (but_last (add_rows m t n a)) front (c.in_ok-rivals.ensures.rows at.low) in
+    let none = no_row m t (adds t n a) p ls at.place refl (but_last (add_rows m t n a)) front apart in
     let fits = ltb-false 256 (length m.locks + 1) tests.1.1.1.1.1.0 in
-    let he = reached_healthy m go (not_false m.fit tests.0) in
+    let fit = not_false m.fit tests.0 in
     let k = m.added p in
-    let few : k ≤ 1024 = (let f = few_added m t he tests.1.0 in let e : k ≡ m.added (place_of m t) = ap m.added at.place in omega arith) in
+    let few : k ≤ 1024 = (let f = from_health c.self.invariant fit le_prop (λ he. few_added m t he tests.1.0) in let e : k ≡ m.added (place_of m t) = ap m.added at.place in omega arith) in
     let count : c.saturating_add-count.result ≡ suc k = (let e = c.saturating_add-count.ensures in let f = c.added_at.ensures in omega arith) in
-    let x = name_of t (suc k) in
-    let named : c.node_name-name.result ≡ x = c.node_name-name.ensures.answer ∙ ap (name_of t) count in
-    let new : has x rs ≡ false = ap (λ (i : ℕ). has (name_of t (suc (m.added i))) rs) at.place ∙ next_name_new m t he tests.1.0 in
+    let x = c.node_name-name.result in
+    let named : x ≡ name_of t (suc k) = c.node_name-name.ensures.answer ∙ ap (name_of t) count in
+    let new : has x rs ≡ false = ap (λ (y : ℕ). has y rs) (named ∙ ap (λ (i : ℕ). name_of t (suc (m.added i))) at.place) ∙ from_health c.self.invariant fit (Bool-set _ false) (λ he. next_name_new m t he tests.1.0) in
     let may = placeable limit x n a rs new tests.1.1.1.1.0 (leb-false limit (length rs) tests.1.1.1.1.1.1.0) (known_there (look n rs) n (place_of m t) tests.1.1.0) in
-    let put = c.place.ensures.after ∙ (ap (λ (y : ℕ). place_after limit y n a rs) named ∙ cond-true (may_place limit x n a rs) (placed (fresh x n a) rs) rs may) in
-    let known = c.teach.ensures.after at.low
-    ∙ ((λ z. map (λ (r : Record). cond (member r.name (named z ∷ [])) (learns p r) r) (put z)) ∙ made_known p x n a rs new) in
+    let put = c.place.ensures.after ∙ cond-true (may_place limit x n a rs) (placed (fresh x n a) rs) rs may in
+    let known = c.teach.ensures.after at.low ∙ (ap (map (λ (r : Record). cond (member r.name (x ∷ [])) (learns p r) r)) put ∙ made_known p x n a rs new) in
     let ss = placed (new_record p x n a) rs in
-    let done = c.grant.ensures rs ss limit at.low fits c.in_ok-rivals.ensures.rivals in
+    let done = c.grant.ensures rs ss limit at.low fits found in
     let few' : k < 65535 = omega arith in
-    let end = λ (i : ℕ). grant m i ls (placed (new_record i (name_of t (suc (m.added i))) n a) rs) (λ (j : ℕ). cond (eqb j i) (suc (m.added i)) (m.added j)) in
-    let kept = c.teach.ensures.same ∙ c.place.ensures.same in
     let d = c.grant.new.self in
-    let after : state (g.S.Store.records c.teach.new.store) (g.S.Store.most c.teach.new.store) (record { seats = c.count_up.new.self; book = d.book; arrows = d.arrows; next = d.next; done = d.done; fit = d.fit }) ≡ end p =
-    same_state _ (end p) known kept (ap (λ (v : Model). v.fit) done) (ap (λ (v : Model). v.next) done)
+    let after = same_state (state (g.S.Store.records c.teach.new.store) (g.S.Store.most c.teach.new.store) (record { seats = c.count_up.new.self; book = d.book; arrows = d.arrows; next = d.next; done = d.done; fit = d.fit }))
+    (grant m p ls ss (λ (j : ℕ). cond (eqb j p) (suc k) (m.added j)))
+    known (c.teach.ensures.same ∙ c.place.ensures.same) (ap (λ (v : Model). v.fit) done) (ap (λ (v : Model). v.next) done)
     (λ i. c.count_up.ensures.tickets i ∙ ap (λ (v : Model). v.tickets i) done)
     (λ i. c.count_up.ensures.counts i ∙ ((λ z. cond (ltb p 32 && eqb i p && ltb ((done z).added i) 65535) (suc ((done z).added i)) ((done z).added i)) ∙ counted p m.added i at.low few'))
     (ap (λ (v : Model). v.locks) done) (λ i j. ap (λ (v : Model). v.arrows i j) done) (ap (λ (v : Model). v.done) done) in
-    judged (add_rows m t n a) None m (grown m t n a) none
-    ∙ (sym (λ z. (end (at.place z), made (name_of t (suc (m.added (at.place z))))))
-    ∙ (λ z. (sym after z, made (sym named z))))
+    judged (add_rows m t n a) None m (grown m t n a) none ∙ grown_at m _ t n a p x at.place named after
+
+pub invariant_of-self : goal.invariant_of-self
+invariant_of-self g c =
+    next_reached (acts 0 (adds c.args.ticket c.args.node c.args.label)) (made c.node_name-name.result) (made_by g (goal.at.invariant_of-self g c).After-count_up 0) c.self.invariant
+
+pub returns : goal.returns
+returns g c room = rw (← c.self.view_is) (made_by g (goal.at.returns g c).After-count_up room)

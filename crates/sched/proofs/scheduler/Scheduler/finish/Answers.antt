@@ -4,18 +4,25 @@ use Rattle.tree.specs.declared.record.Record.{Record}
 use Rattle.tree.specs.Lists.{keep}
 use Rattle.model.specs.Numbers.{member}
 use Rattle.model.specs.Rules.{finished}
-use Rattle.model.specs.Scheduler.{Model, place_of}
+use Rattle.model.specs.Scheduler.{Model, finishes, place_of}
 use Rattle.model.specs.Changes.{ended}
 use Rattle.model.specs.Refusals.{first_row, finish_rows}
+use Rattle.model.specs.Calls.{step}
 use Rattle.desk.specs.States.{state, forgotten}
 use Rattle.desk.proofs.Rows.{judged}
-use Rattle.sched.proofs.Reaching.{marked_downward, one_more_fits}
+use Rattle.sched.proofs.Reaching.{next_reached, marked_downward, one_more_fits}
 use Rattle.sched.proofs.Words.{one_place}
 use Rattle.sched.proofs.scheduler.Scheduler.finish.Goals as goal
+use Rattle.sched.proofs.scheduler.Scheduler.finish.Given.{Over}
+use Rattle.sched.proofs.scheduler.Scheduler.finish.Goals.{After-free}
 
-pub returns : goal.returns
-returns g c go =
-    let s = c.args.self.now in
+ended_by : (g : Over) (c : After-free g) →
+    let s = c.self.inside in
+    let d = c.free.new.self in
+    step (state (g.S.Store.records s.store) (g.S.Store.most s.store) s.desk) (finishes c.args.ticket)
+    ≡ (state (g.S.Store.records c.forget.new.store) (g.S.Store.most c.forget.new.store) d, finished d.done)
+ended_by g c =
+    let s = c.self.inside in
     let t = c.args.ticket in
     let rs = g.S.Store.records s.store in
     let limit = g.S.Store.most s.store in
@@ -26,9 +33,16 @@ returns g c go =
     let at = c.in_ok-place.ensures.place in
     let bits : (i : ℕ) → bit c.with-places.result i ≡ member i ps =
     λ i. one_place c.with-places.result c.in_ok-place.place at.1 c.with-places.ensures i ∙ ap (λ (p : ℕ). member i (p ∷ [])) (at.0 rs limit) in
-    let dropped = c.drop_marked.ensures.after (marked_downward m t go rows) in
+    let dropped = c.drop_marked.ensures.after (marked_downward m t rows c.self.invariant) in
     let forgot = c.forget.ensures.listed ps bits ∙ ap (forgotten ps) dropped in
-    let freed = c.free.ensures rs left limit ps bits (one_more_fits m t go rows) in
+    let freed = c.free.ensures rs left limit ps bits (one_more_fits m t rows c.self.invariant) in
     let after : (ended m t).0 ≡ state (g.S.Store.records c.forget.new.store) (g.S.Store.most c.forget.new.store) c.free.new.self =
     sym freed ∙ (λ x. state (sym forgot x) (sym (c.forget.ensures.same ∙ c.drop_marked.ensures.same) x) c.free.new.self) in
     judged (finish_rows m t) None m (ended m t) rows ∙ ap (λ (n : Model). (n, finished n.done)) after
+
+pub invariant_of-self : goal.invariant_of-self
+invariant_of-self g c =
+    next_reached (finishes c.args.ticket) (finished c.free.new.self.done) (ended_by g (goal.at.invariant_of-self g c).After-free) c.self.invariant
+
+pub returns : goal.returns
+returns g c = rw (← c.self.view_is) (ended_by g (goal.at.returns g c).After-free)
