@@ -15,12 +15,11 @@ pub struct Scheduler<S: Store> {
 }
 
 impl<S: Store> Model for Scheduler<S> {
-    ghost use Rattle.desk.specs.States.{state};
-    ghost use Rattle.sched.specs.Whole.{Parts, Reached};
+    ghost use Rattle.sched.specs.Whole.{Parts, state_of, Reached};
 
     ghost Value = { Parts };
 
-    ghost view = { λ s. record { records = S.Store.records s.store; limit = S.Store.most s.store; desk = s.desk } };
+    ghost view = { λ s. record { store = S.Store.meaning s.store; desk = s.desk } };
 
-    ghost invariant = { λ s. ∥ Reached (state (S.Store.records s.store) (S.Store.most s.store) s.desk) ∥₁ };
+    ghost invariant = { λ s. ∥ Reached (state_of (record { store = S.Store.meaning s.store; desk = s.desk })) ∥₁ };
 }

@@ -10,7 +10,7 @@ ghost use Rattle.sched.specs.Whole.{state_of};
 ghost use Rattle.sched.specs.Judging.{head_rows, At};
 
 use crate::scheduler::Scheduler;
-use book::lock::Lock;
+use book::lock::Claim;
 use calls::reason::Reason;
 use rivals::rivals;
 use tree::{ROOT, Record, Store};
@@ -20,7 +20,7 @@ impl<S: Store> Scheduler<S> {
     // The record of a live node that the ticket at the place knows.
     fn known_node(&self, place: usize, node: u64) -> Result<Record, Reason>
         ensures rows { first_row (node_rows (state_of self.now) place node) ≡ refusal result }
-        ensures node { IfOk result (λ x. look node self.now.records ≡ Some x) }
+        ensures node { IfOk result (λ x. look node self.now.store.records ≡ Some x) }
     {
         let Some(record) = self.store.look(node) else {
             return Err(Reason::Unknown);
@@ -38,7 +38,7 @@ impl<S: Store> Scheduler<S> {
     pub fn begins(&self, ticket: u32, node: u64) -> Result<(usize, Record), Reason>
         ensures rows { first_row (head_rows (state_of self.now) ticket node) ≡ refusal result }
         ensures place { IfOk result (λ v. At (state_of self.now) ticket v.0) }
-        ensures node { IfOk result (λ v. look node self.now.records ≡ Some v.1) }
+        ensures node { IfOk result (λ v. look node self.now.store.records ≡ Some v.1) }
     {
         let place = self.desk.place_of(ticket)?;
         let record = self.known_node(place, node)?;
@@ -46,12 +46,12 @@ impl<S: Store> Scheduler<S> {
     }
 
     // The places from which the action's arrows come, where they close no ring.
-    pub fn rivals_of(&self, place: usize, locks: &[Lock]) -> Result<u32, Reason>
-        ensures rows { place < 32 → first_row ((ring (state_of self.now).arrows place (rivals (state_of self.now) place (map lock_of locks.now)), 11) ∷ []) ≡ refusal result }
-        ensures rivals { IfOk result (λ w. Rivals (state_of self.now) place (map lock_of locks.now) w) }
+    pub fn rivals_of(&self, claim: Claim) -> Result<u32, Reason>
+        ensures rows { claim.entry.place < 32 → first_row ((ring (state_of self.now).arrows claim.entry.place (rivals (state_of self.now) claim.entry.place (map lock_of claim.entry.locks.now)), 11) ∷ []) ≡ refusal result }
+        ensures rivals { IfOk result (λ w. Rivals (state_of self.now) claim.entry.place (map lock_of claim.entry.locks.now) w) }
     {
-        let from = rivals(&self.store, &self.desk.book, place, locks);
-        if self.desk.arrows.would_ring(place, from) {
+        let from = rivals(&self.store, &self.desk.book, claim);
+        if self.desk.arrows.would_ring(claim.place, from) {
             return Err(Reason::Ring);
         }
         Ok(from)

@@ -2,7 +2,7 @@
 ghost use Rattle.std.specs.Prelude.{◌≡◌, IfOk};
 ghost use Rattle.model.specs.Scheduler.{make};
 ghost use Rattle.model.specs.Law.{Kept};
-ghost use Rattle.sched.specs.Whole.{state_of};
+ghost use Rattle.sched.specs.Whole.{state_of, making};
 
 use crate::scheduler::Scheduler;
 use desk::desk::Desk;
@@ -13,8 +13,8 @@ use walks::choice::fit_for;
 impl<S: Store + Drop> Scheduler<S> {
     // Over any store: where it cannot begin with it, the scheduler is unfit and refuses every call. All memory is reserved here.
     pub fn new(heap: Global, store: S, first: u32) -> Result<Scheduler<S>, AllocError>
-        ensures state { IfOk result (λ s. state_of s ≡ make (record { store = S.Store.records store; limit = S.Store.most store; first = first })) }
-        ensures kept { Kept (record { store = S.Store.records store; limit = S.Store.most store; first = first }) }
+        ensures state { IfOk result (λ s. state_of s ≡ make (making (S.Store.meaning store) first)) }
+        ensures kept { Kept (making (S.Store.meaning store) first) }
     {
         let fit = fit_for(&store, first);
         let desk = Desk::new(heap, first, fit)?;

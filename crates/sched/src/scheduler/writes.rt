@@ -11,7 +11,7 @@ ghost use Rattle.sched.specs.Whole.{state_of};
 ghost use Rattle.sched.specs.Judging.{but_last, At};
 
 use crate::scheduler::Scheduler;
-use book::lock::Lock;
+use book::lock::{Claim, Lock};
 use calls::reason::Reason;
 use tree::{ROOT, Record, Store, node_name};
 use walks::choice::has_live_child;
@@ -40,13 +40,17 @@ impl<S: Store> Scheduler<S> {
     {
         let place = self.may_add(ticket, node, label)?;
         let locks = [Lock::Write(node, Some(label))];
-        let rivals = self.rivals_of(place, &locks)?;
+        let claim = Claim {
+            place,
+            locks: &locks,
+        };
+        let rivals = self.rivals_of(claim)?;
         // The count fits: a ticket's additions stay in the store while it is open.
         let count = self.desk.seats.added_at(place).saturating_add(1);
         let name = node_name(ticket, count);
         let _ = self.store.place(name, node, label);
         teach(&mut self.store, &[name], place);
-        self.desk.grant(place, &locks, rivals);
+        self.desk.grant(claim, rivals);
         self.desk.seats.count_up(place);
         Ok(name)
     }
@@ -55,7 +59,7 @@ impl<S: Store> Scheduler<S> {
     fn may_remove(&self, ticket: u32, node: u64) -> Result<(usize, Record), Reason>
         ensures rows { first_row (but_last (remove_rows (state_of self.now) ticket node)) ≡ refusal result }
         ensures place { IfOk result (λ v. At (state_of self.now) ticket v.0) }
-        ensures node { IfOk result (λ v. look node self.now.records ≡ Some v.1) }
+        ensures node { IfOk result (λ v. look node self.now.store.records ≡ Some v.1) }
     {
         let begun = self.begins(ticket, node)?;
         if node == ROOT {
@@ -77,9 +81,13 @@ impl<S: Store> Scheduler<S> {
             Lock::Write(node, None),
             Lock::Write(record.parent, Some(record.label)),
         ];
-        let rivals = self.rivals_of(place, &locks)?;
+        let claim = Claim {
+            place,
+            locks: &locks,
+        };
+        let rivals = self.rivals_of(claim)?;
         mark(&mut self.store, node, ticket);
-        self.desk.grant(place, &locks, rivals);
+        self.desk.grant(claim, rivals);
         Ok(())
     }
 }

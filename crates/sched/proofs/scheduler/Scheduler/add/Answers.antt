@@ -1,17 +1,21 @@
-use Rattle.std.proofs.Common.{◌≡◌, ℕ, suc, ◌+◌, ◌<◌, ◌≤◌, Bool, true, false, cond, not, ◌&&◌, ◌||◌, eqb, ltb, List, [], ◌∷◌, map, length, is_some, Some, None, Option, refl, ap, ◌∙◌, arith}
+use Rattle.std.proofs.Common.{◌≡◌, ℕ, suc, ◌+◌, ◌^◌, ◌<◌, ◌≤◌, Bool, true, false, cond, not, ◌&&◌, ◌||◌, eqb, ltb, List, [], ◌∷◌, map, length, is_some, Some, None, Option, bit_or, refl, ap, ◌∙◌, arith}
 use mathlib.Core.Bool.{Bool-set}
 use Rattle.std.specs.Coded.{le_prop}
-use Rattle.std.proofs.lemmas.Bool.{ltb-false, leb-false, ne_eqb, cond-true, true≢false}
+use Rattle.std.proofs.lemmas.Bool.{ltb-false, leb-false, ne_eqb, cond-true, true≢false, lt-ltb}
 use Rattle.path.specs.declared.coded.CodedPath.{CodedPath}
 use Rattle.tree.specs.declared.record.Record.{Record}
 use Rattle.tree.specs.Names.{name_of}
 use Rattle.tree.specs.Records.{look, has, fresh, placed}
 use Rattle.tree.specs.Calls.{first_root, may_place}
+use Rattle.tree.specs.Stores.{Meaning, holding}
+use Rattle.seats.specs.Places.{seat_at}
+use Rattle.desk.proofs.Places.{counted_seat}
+use Rattle.walks.specs.Changes.{learns_at}
 use Rattle.model.specs.Numbers.{member}
 use Rattle.model.specs.Rules.{adds, made}
 use Rattle.model.specs.Locks.{Lock, write}
 use Rattle.model.specs.Scheduler.{Model, acts, place_of}
-use Rattle.model.specs.Changes.{new_record, learns, grant, grown}
+use Rattle.model.specs.Changes.{new_record, learns, with_note, grant, grown}
 use Rattle.model.specs.Refusals.{unknown, add_rows}
 use Rattle.model.specs.Calls.{step}
 use Rattle.desk.specs.States.{state}
@@ -33,6 +37,9 @@ known_there : (o : Option Record) (n i : ℕ) → unknown o n i ≡ false → is
 known_there None n i e = absurd (true≢false e)
 known_there (Some r) n i e = refl
 
+learned : (p : ℕ) → p < 32 → (x : ℕ) (rs : List Record) → map (λ r. cond (member r.name (x ∷ [])) (learns_at p r) r) rs ≡ map (λ r. cond (member r.name (x ∷ [])) (learns p r) r) rs
+learned p low x rs = λ z. map (λ (r : Record). cond (member r.name (x ∷ [])) (with_note r (cond (lt-ltb p 32 low z) (bit_or (2 ^ p) r.note) r.note)) r) rs
+
 placeable : (limit x n a : ℕ) (rs : List Record) → has x rs ≡ false → eqb a 0 ≡ false → length rs < limit → has n rs ≡ true → may_place limit x n a rs ≡ true
 placeable limit x n a rs new label free there =
     λ z. not (new z) && (not (label z) && (not (ne_eqb (length rs) limit (omega arith) z) && (there z || first_root x n rs)))
@@ -40,15 +47,15 @@ placeable limit x n a rs new label free there =
 made_by : (g : Over) (c : After-count_up g) (room : ℕ) →
     let s = c.self.inside in
     let d = c.grant.new.self in
-    step (state (g.S.Store.records s.store) (g.S.Store.most s.store) s.desk) (acts room (adds c.args.ticket c.args.node c.args.label))
-    ≡ (state (g.S.Store.records c.teach.new.store) (g.S.Store.most c.teach.new.store) (record { seats = c.count_up.new.self; book = d.book; arrows = d.arrows; next = d.next; done = d.done; fit = d.fit }), made c.node_name-name.result)
+    step (state (g.S.Store.meaning s.store).records (g.S.Store.meaning s.store).most s.desk) (acts room (adds c.args.ticket c.args.node c.args.label))
+    ≡ (state (g.S.Store.meaning c.teach.new.store).records (g.S.Store.meaning c.teach.new.store).most (record { seats = c.count_up.new.self; book = d.book; arrows = d.arrows; next = d.next; done = d.done; fit = d.fit }), made c.node_name-name.result)
 made_by g c room =
     let s = c.self.inside in
     let t = c.args.ticket in
     let n = c.args.node in
     let a = c.args.label in
-    let rs = g.S.Store.records s.store in
-    let limit = g.S.Store.most s.store in
+    let rs = (g.S.Store.meaning s.store).records in
+    let limit = (g.S.Store.meaning s.store).most in
     let m = state rs limit s.desk in
     let p = c.in_ok-place.place in
     let ls : List (Lock CodedPath) = write n (Some a) ∷ [] in
@@ -67,17 +74,17 @@ made_by g c room =
     let named : x ≡ name_of t (suc k) = c.node_name-name.ensures.answer ∙ ap (name_of t) count in
     let new : has x rs ≡ false = ap (λ (y : ℕ). has y rs) (named ∙ ap (λ (i : ℕ). name_of t (suc (m.added i))) at.place) ∙ from_health c.self.invariant fit (Bool-set _ false) (λ he. next_name_new m t he tests.1.0) in
     let may = placeable limit x n a rs new tests.1.1.1.1.0 (leb-false limit (length rs) tests.1.1.1.1.1.1.0) (known_there (look n rs) n (place_of m t) tests.1.1.0) in
-    let put = c.place.ensures.after ∙ cond-true (may_place limit x n a rs) (placed (fresh x n a) rs) rs may in
-    let known = c.teach.ensures.after at.low ∙ (ap (map (λ (r : Record). cond (member r.name (x ∷ [])) (learns p r) r)) put ∙ made_known p x n a rs new) in
+    let put = c.place.ensures.after ∙ ap (holding (g.S.Store.meaning s.store)) (cond-true (may_place limit x n a rs) (placed (fresh x n a) rs) rs may) in
+    let known = c.teach.ensures.after ∙ (ap (λ (v : Meaning). holding v (map (λ (r : Record). cond (member r.name (x ∷ [])) (learns_at p r) r) v.records)) put ∙ ap (holding (g.S.Store.meaning s.store)) (learned p at.low x (placed (fresh x n a) rs) ∙ made_known p x n a rs new)) in
     let ss = placed (new_record p x n a) rs in
     let done = c.grant.ensures rs ss limit at.low fits found in
     let few' : k < 65535 = omega arith in
     let d = c.grant.new.self in
-    let after = same_state (state (g.S.Store.records c.teach.new.store) (g.S.Store.most c.teach.new.store) (record { seats = c.count_up.new.self; book = d.book; arrows = d.arrows; next = d.next; done = d.done; fit = d.fit }))
+    let after = same_state (state (g.S.Store.meaning c.teach.new.store).records (g.S.Store.meaning c.teach.new.store).most (record { seats = c.count_up.new.self; book = d.book; arrows = d.arrows; next = d.next; done = d.done; fit = d.fit }))
     (grant m p ls ss (λ (j : ℕ). cond (eqb j p) (suc k) (m.added j)))
-    known (c.teach.ensures.same ∙ c.place.ensures.same) (ap (λ (v : Model). v.fit) done) (ap (λ (v : Model). v.next) done)
-    (λ i. c.count_up.ensures.tickets i ∙ ap (λ (v : Model). v.tickets i) done)
-    (λ i. c.count_up.ensures.counts i ∙ ((λ z. cond (ltb p 32 && eqb i p && ltb ((done z).added i) 65535) (suc ((done z).added i)) ((done z).added i)) ∙ counted p m.added i at.low few'))
+    (ap (λ (v : Meaning). v.records) known) (ap (λ (v : Meaning). v.most) known) (ap (λ (v : Model). v.fit) done) (ap (λ (v : Model). v.next) done)
+    (λ i. (counted_seat _ (seat_at d.seats i) _ (c.count_up.ensures i)).0 ∙ ap (λ (v : Model). v.tickets i) done)
+    (λ i. (counted_seat _ (seat_at d.seats i) _ (c.count_up.ensures i)).1 ∙ ((λ z. cond (ltb p 32 && eqb i p && ltb ((done z).added i) 65535) (suc ((done z).added i)) ((done z).added i)) ∙ counted p m.added i at.low few'))
     (ap (λ (v : Model). v.locks) done) (λ i j. ap (λ (v : Model). v.arrows i j) done) (ap (λ (v : Model). v.done) done) in
     judged (add_rows m t n a) None m (grown m t n a) none ∙ grown_at m _ t n a p x at.place named after
 

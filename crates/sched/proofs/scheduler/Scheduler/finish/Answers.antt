@@ -2,6 +2,7 @@ use Rattle.std.proofs.Common.{◌≡◌, ℕ, not, eqb, [], ◌∷◌, None, sym
 use Rattle.words.specs.Words.{bit}
 use Rattle.tree.specs.declared.record.Record.{Record}
 use Rattle.tree.specs.Lists.{keep}
+use Rattle.tree.specs.Stores.{Meaning, holding}
 use Rattle.model.specs.Numbers.{member}
 use Rattle.model.specs.Rules.{finished}
 use Rattle.model.specs.Scheduler.{Model, finishes, place_of}
@@ -19,13 +20,13 @@ use Rattle.sched.proofs.scheduler.Scheduler.finish.Goals.{After-free}
 ended_by : (g : Over) (c : After-free g) →
     let s = c.self.inside in
     let d = c.free.new.self in
-    step (state (g.S.Store.records s.store) (g.S.Store.most s.store) s.desk) (finishes c.args.ticket)
-    ≡ (state (g.S.Store.records c.forget.new.store) (g.S.Store.most c.forget.new.store) d, finished d.done)
+    step (state (g.S.Store.meaning s.store).records (g.S.Store.meaning s.store).most s.desk) (finishes c.args.ticket)
+    ≡ (state (g.S.Store.meaning c.forget.new.store).records (g.S.Store.meaning c.forget.new.store).most d, finished d.done)
 ended_by g c =
     let s = c.self.inside in
     let t = c.args.ticket in
-    let rs = g.S.Store.records s.store in
-    let limit = g.S.Store.most s.store in
+    let rs = (g.S.Store.meaning s.store).records in
+    let limit = (g.S.Store.meaning s.store).most in
     let m = state rs limit s.desk in
     let ps = place_of m t ∷ [] in
     let left = keep (λ (r : Record). not (eqb r.mark t)) rs in
@@ -34,10 +35,10 @@ ended_by g c =
     let bits : (i : ℕ) → bit c.with-places.result i ≡ member i ps =
     λ i. one_place c.with-places.result c.in_ok-place.place at.1 c.with-places.ensures i ∙ ap (λ (p : ℕ). member i (p ∷ [])) (at.0 rs limit) in
     let dropped = c.drop_marked.ensures.after (marked_downward m t rows c.self.invariant) in
-    let forgot = c.forget.ensures.listed ps bits ∙ ap (forgotten ps) dropped in
+    let forgot = c.forget.ensures.listed ps bits ∙ ap (λ (x : Meaning). holding x (forgotten ps x.records)) dropped in
     let freed = c.free.ensures rs left limit ps bits (one_more_fits m t rows c.self.invariant) in
-    let after : (ended m t).0 ≡ state (g.S.Store.records c.forget.new.store) (g.S.Store.most c.forget.new.store) c.free.new.self =
-    sym freed ∙ (λ x. state (sym forgot x) (sym (c.forget.ensures.same ∙ c.drop_marked.ensures.same) x) c.free.new.self) in
+    let after : (ended m t).0 ≡ state (g.S.Store.meaning c.forget.new.store).records (g.S.Store.meaning c.forget.new.store).most c.free.new.self =
+    sym freed ∙ (λ x. state (sym forgot x).records (sym forgot x).most c.free.new.self) in
     judged (finish_rows m t) None m (ended m t) rows ∙ ap (λ (n : Model). (n, finished n.done)) after
 
 pub invariant_of-self : goal.invariant_of-self

@@ -10,7 +10,7 @@ use Rattle.sched.proofs.scheduler.Scheduler.may_add.Goals as goal
 pub returns-in_err-has_rows-clause-rows : goal.returns-in_err-has_rows-clause-rows
 returns-in_err-has_rows-clause-rows g c =
     let s = c.self.inside in
-    let m = state (g.S.Store.records s.store) (g.S.Store.most s.store) s.desk in
+    let m = state (g.S.Store.meaning s.store).records (g.S.Store.meaning s.store).most s.desk in
     let full = (leb m.limit (length m.records), 10) ∷ [] in
     let p = err_from_is_err_and c.from_residual-in_err-has_rows.result c.from_residual-in_err-has_rows.ensures.1 in
     let begun = rw (← c.self.view_is) at c.in_ok-place.ensures.rows in

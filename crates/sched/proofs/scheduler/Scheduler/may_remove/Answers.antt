@@ -13,7 +13,7 @@ use Rattle.sched.proofs.scheduler.Scheduler.may_remove.Goals as goal
 pub returns-in_err-has_rows-clause-rows : goal.returns-in_err-has_rows-clause-rows
 returns-in_err-has_rows-clause-rows g c =
     let s = c.self.inside in
-    let m = state (g.S.Store.records s.store) (g.S.Store.most s.store) s.desk in
+    let m = state (g.S.Store.meaning s.store).records (g.S.Store.meaning s.store).most s.desk in
     let child = some_of (child_of c.args.node) (actual m.records) in
     let p = err_from_is_err_and c.from_residual-in_err-has_rows.result c.from_residual-in_err-has_rows.ensures.1 in
     let begun = rw (← c.self.view_is) at c.in_ok-begun.ensures.rows in

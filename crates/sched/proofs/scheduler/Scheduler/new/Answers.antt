@@ -8,7 +8,7 @@ invariant_of-result g c =
     let s = c.args.store in
     let bounded = g.met.S.Store.bounded s in
     let small = g.met.S.Store.small in
-    let mk : Making = record { store = g.S.Store.records s; limit = g.S.Store.most s; first = c.args.first } in
+    let mk : Making = record { store = (g.S.Store.meaning s).records; limit = (g.S.Store.meaning s).most; first = c.args.first } in
     let kept : Kept mk = record {
       rising = g.met.S.Store.rising s;
       tree = g.met.S.Store.tree s;
@@ -16,4 +16,4 @@ invariant_of-result g c =
       most = omega arith;
       ticket = omega arith;
     } in
-    ∣ (mk, kept, [], c.in_ok-desk.ensures (g.S.Store.records s) (g.S.Store.most s) c.fit_for-fit.ensures.answer) ∣₁
+    ∣ (mk, kept, [], c.in_ok-desk.ensures (g.S.Store.meaning s).records (g.S.Store.meaning s).most c.fit_for-fit.ensures.answer) ∣₁

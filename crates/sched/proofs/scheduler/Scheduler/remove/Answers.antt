@@ -19,14 +19,14 @@ use Rattle.sched.proofs.scheduler.Scheduler.remove.Goals as goal
 
 taken_by : (g : Over) (c : After-grant g) (room : ℕ) →
     let s = c.self.inside in
-    step (state (g.S.Store.records s.store) (g.S.Store.most s.store) s.desk) (acts room (removes c.args.ticket c.args.node))
-    ≡ (state (g.S.Store.records c.mark.new.store) (g.S.Store.most c.mark.new.store) c.grant.new.self, removed)
+    step (state (g.S.Store.meaning s.store).records (g.S.Store.meaning s.store).most s.desk) (acts room (removes c.args.ticket c.args.node))
+    ≡ (state (g.S.Store.meaning c.mark.new.store).records (g.S.Store.meaning c.mark.new.store).most c.grant.new.self, removed)
 taken_by g c room =
     let s = c.self.inside in
     let t = c.args.ticket in
     let n = c.args.node in
-    let rs = g.S.Store.records s.store in
-    let limit = g.S.Store.most s.store in
+    let rs = (g.S.Store.meaning s.store).records in
+    let limit = (g.S.Store.meaning s.store).most in
     let m = state rs limit s.desk in
     let r = c.in_ok-place.«record» in
     let p = c.in_ok-place.place in
@@ -45,7 +45,7 @@ taken_by g c room =
     let after = granted m t (removes t n) p ls at.place own (state ss limit c.grant.new.self) ss m.added done in
     judged (remove_rows m t n) None m (taken m t n) none
     ∙ (λ x. (after x, removed))
-    ∙ (λ x. (state (sym c.mark.ensures.after x) (sym c.mark.ensures.same x) c.grant.new.self, removed))
+    ∙ (λ x. (state (sym c.mark.ensures.after x).records (sym c.mark.ensures.after x).most c.grant.new.self, removed))
 
 pub invariant_of-self : goal.invariant_of-self
 invariant_of-self g c = next_reached (acts 0 (removes c.args.ticket c.args.node)) removed (taken_by g (goal.at.invariant_of-self g c).After-grant 0) c.self.invariant
