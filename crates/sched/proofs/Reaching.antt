@@ -30,16 +30,9 @@ use Rattle.sched.specs.Whole.{Reached}
 pub next_reached : {m m' : Model} (c : Call) (a : Answer) → step m c ≡ (m', a) → ∥ Reached m ∥₁ → ∥ Reached m' ∥₁
 next_reached {m} c a s go = ∥∥₁_map go (λ (mk, kept, h, af). (mk, kept, (record { kiosk = Zero; call = c }, a) ∷ h, (m, af, s)))
 
-reached_healthy : (m : Model) → Reached m → m.fit ≡ true → Healthy m
-reached_healthy m (mk, kept, h, af) e = health mk kept h m af e
-
 -- what follows from the health of a state that is reached, where it has one proof at most
 pub from_health : {m : Model} {P : Type 0} → ∥ Reached m ∥₁ → m.fit ≡ true → IsProp P → (Healthy m → P) → P
-from_health {m} go e one f = ∥∥₁_elim go one (λ r. f (reached_healthy m r e))
-
--- the state after one call more
-next_healthy : (m m' : Model) (c : Call) (a : Answer) → Reached m → step m c ≡ (m', a) → m'.fit ≡ true → Healthy m'
-next_healthy m m' c a (mk, kept, h, af) s e = health mk kept ((record { kiosk = Zero; call = c }, a) ∷ h) m' (m, af, s) e
+from_health {m} go fit once f = ∥∥₁_elim go once (λ (mk, kept, h, af). f (health mk kept h m af fit))
 
 -- a call that names an open ticket is refused by no row: the scheduler is fit
 fit_of : (m : Model) (t : ℕ) (more : Rows) → first_row (ticket_rows m t ++ more) ≡ None → m.fit ≡ true
@@ -74,40 +67,42 @@ few_added m t he e =
     let most = he.most in
     omega arith
 
+-- two proofs that a choice goes downward are one
 downward_once : (f : Record → Bool) (rs : List Record) → IsProp (Downward f rs)
 downward_once f rs = Π_prop (λ r. Π_prop (λ c. Π_prop (λ _. Π_prop (λ _. Π_prop (λ _. Π_prop (λ _. Bool-set (f c) true))))))
 
-module _ (m : Model) (t : ℕ) where
+module _ (m : Model) (t : ℕ) (go : ∥ Reached m ∥₁) where
   module _ (rows : first_row (finish_rows m t) ≡ None) where
     finish_fit : m.fit ≡ true
     finish_fit = fit_of m t ((arrow_into m.arrows (place_of m t), 12) ∷ []) rows
 
-    after_finish : Reached m → Healthy (ended m t).0
-    after_finish go = next_healthy m (ended m t).0 (finishes t) (ended m t).1 go (judged (finish_rows m t) None m (ended m t) rows) finish_fit
+    after_finish : ∥ Reached (ended m t).0 ∥₁
+    after_finish = next_reached (finishes t) (ended m t).1 (judged (finish_rows m t) None m (ended m t) rows) go
 
-    pub marked_downward : ∥ Reached m ∥₁ → Downward (λ r. eqb r.mark t) m.records
-    marked_downward go = ∥∥₁_elim go (downward_once (λ r. eqb r.mark t) m.records)
-        (λ r. downward (λ r. eqb r.mark t) m.records (reached_healthy m r finish_fit).rising
-        (subst IsTree (nodes_same (forgets (place_of m t ∷ [])) (λ r. refl) (keep (λ (r : Record). not (eqb r.mark t)) m.records)) (after_finish r).tree))
+    pub marked_downward : Downward (λ r. eqb r.mark t) m.records
+    marked_downward =
+        let once = downward_once (λ r. eqb r.mark t) m.records in
+        from_health go finish_fit once (λ he. from_health after_finish finish_fit once (λ next. downward (λ r. eqb r.mark t) m.records he.rising
+        (subst IsTree (nodes_same (forgets (place_of m t ∷ [])) (λ r. refl) (keep (λ (r : Record). not (eqb r.mark t)) m.records)) next.tree)))
 
-    pub one_more_fits : ∥ Reached m ∥₁ → m.done + 1 ≤ 4294967295
-    one_more_fits go = ∥∥₁_elim go le_prop (λ r. (after_finish r).done_fits)
+    pub one_more_fits : m.done + 1 ≤ 4294967295
+    one_more_fits = from_health after_finish finish_fit le_prop (λ next. next.done_fits)
 
   module _ (room : ℕ) (rows : first_row (withdraw_rows m room t) ≡ None) where
     withdraw_fit : m.fit ≡ true
     withdraw_fit = fit_of m t ((ltb room (length (fallen m t)), 8) ∷ []) rows
 
-    after_withdraw : Reached m → Healthy (dropped m t).0
-    after_withdraw go = next_healthy m (dropped m t).0 (withdraws room t) (dropped m t).1 go (judged (withdraw_rows m room t) None m (dropped m t) rows) withdraw_fit
+    after_withdraw : ∥ Reached (dropped m t).0 ∥₁
+    after_withdraw = next_reached (withdraws room t) (dropped m t).1 (judged (withdraw_rows m room t) None m (dropped m t) rows) go
 
-    pub made_downward : ∥ Reached m ∥₁ → Downward (λ r. member (ticket_part r.name) (fallen m t)) m.records
-    made_downward go =
+    pub made_downward : Downward (λ r. member (ticket_part r.name) (fallen m t)) m.records
+    made_downward =
         let f = λ (r : Record). member (ticket_part r.name) (fallen m t) in
         let left = keep (λ (r : Record). not (f r)) m.records in
         let unmark = λ (r : Record). cond (member r.mark (fallen m t)) (with_mark r 0) r in
-        ∥∥₁_elim go (downward_once f m.records)
-        (λ r. downward f m.records (reached_healthy m r withdraw_fit).rising
-        (subst IsTree (nodes_same (forgets (falling m t)) (λ r. refl) (map unmark left) ∙ nodes_same unmark (λ r. unmarked (member r.mark (fallen m t)) r) left) (after_withdraw r).tree))
+        let once = downward_once f m.records in
+        from_health go withdraw_fit once (λ he. from_health after_withdraw withdraw_fit once (λ next. downward f m.records he.rising
+        (subst IsTree (nodes_same (forgets (falling m t)) (λ r. refl) (map unmark left) ∙ nodes_same unmark (λ r. unmarked (member r.mark (fallen m t)) r) left) next.tree)))
       where
         unmarked : (b : Bool) (r : Record) → bare (cond b (with_mark r 0) r) ≡ bare r
         unmarked true r = refl

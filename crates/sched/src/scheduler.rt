@@ -14,6 +14,7 @@ pub struct Scheduler<S: Store> {
     desk: Desk,
 }
 
+// Contracts see the parts: a value is data, and the state that they give has functions.
 impl<S: Store> Model for Scheduler<S> {
     ghost use Rattle.sched.specs.Whole.{Parts, state_of, Reached};
 

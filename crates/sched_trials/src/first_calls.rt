@@ -13,7 +13,7 @@ const FIRST: u64 = 65_537;
 fn refusal<T: Drop>(answer: Result<T, Reason>) -> Option<u8> {
     match answer {
         Ok(_) => None,
-        Err(reason) => Some(reason.number()),
+        Err(reason) => Some(u8::from(reason)),
     }
 }
 
