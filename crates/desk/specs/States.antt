@@ -1,9 +1,13 @@
 -- What a desk says, over the records and the limit of a store. Assumes nothing.
 --     state rs limit d      the scheduler's state
+--     next_of o             the number of the ticket that o is, 0 for none
+--     OverAnyStore d P      P holds of the scheduler's state, whatever the records and the limit of its store are
 --     refusal r             the number of the refusal that r is, or none
 --     Rivals m p ls w       the word w has the places whose locks conflict with the locks ls, which the ticket at p needs
 --     forgotten ps rs       the records, where no ticket at the places ps knows a node any more
 use Rattle.std.specs.Prelude.{◌≡◌, ℕ, List, map, Some, None, Ok, Err, Option, Result}
+use Rattle.std.specs.Int.NonZero.{non_zero_u32_get}
+use Rattle.std.specs.declared.num.NonZeroU32.{NonZeroU32}
 use Rattle.words.specs.Words.{bit}
 use Rattle.path.specs.declared.coded.CodedPath.{CodedPath}
 use Rattle.tree.specs.declared.record.Record.{Record}
@@ -17,18 +21,25 @@ use Rattle.book.specs.Rows.{held_of}
 use Rattle.arrows.specs.Between.{between}
 use Rattle.desk.specs.declared.desk.Desk.{Desk}
 
+abbrev pub next_of : Option NonZeroU32 → ℕ
+next_of None = 0
+next_of (Some t) = non_zero_u32_get t
+
 abbrev pub state : List Record → ℕ → Desk → Model
 state rs limit d = record {
   records = rs;
   limit = limit;
   fit = d.fit;
-  next = d.next;
+  next = next_of d.next;
   tickets = ticket_at d.seats;
   added = added_at d.seats;
   locks = held_of d.book;
   arrows = between d.arrows;
   done = d.done;
 }
+
+abbrev pub OverAnyStore : Desk → (Model → Type 0) → Type 0
+OverAnyStore d P = (rs : List Record) (limit : ℕ) → P (state rs limit d)
 
 abbrev pub refusal : {A : Type 0} → Result A Reason → Option ℕ
 refusal (Ok x) = None

@@ -2,6 +2,7 @@
 use arrows::arrows::Arrows;
 use book::book::Book;
 use seats::seats::Seats;
+use std::num::NonZeroU32;
 
 pub mod changes;
 pub mod judging;
@@ -13,8 +14,8 @@ pub struct Desk {
     pub seats: Seats,
     pub book: Book,
     pub arrows: Arrows,
-    // The ticket that the next open gives, 0 where none is left.
-    pub next: u32,
+    // The ticket that the next open gives, None where none is left.
+    pub next: Option<NonZeroU32>,
     // How many tickets are finished.
     pub done: u32,
     // Whether the scheduler was made over a store that it can begin with.

@@ -9,15 +9,15 @@ ghost use Rattle.book.specs.Rows.{held_of, lock_of};
 ghost use Rattle.desk.specs.States.{state, Rivals, forgotten};
 
 use crate::desk::Desk;
-use book::lock::Lock;
+use book::lock::Claim;
 
 impl Desk {
-    // The ticket at the place takes the locks, where there is room for them, with arrows from its rivals.
-    pub fn grant(&mut self, place: usize, locks: &[Lock], rivals: u32)
-        ensures { (rs ss : List Record) (limit : ℕ) → place < 32 → length (held_of self.old.book) + length locks.now ≤ 256 → Rivals (state rs limit self.old) place (map lock_of locks.now) rivals → state ss limit self.new ≡ grant (state rs limit self.old) place (map lock_of locks.now) ss (added_at self.old.seats) }
+    // The ticket takes the locks of its claim, where there is room for them, with arrows from its rivals.
+    pub fn grant(&mut self, claim: Claim, rivals: u32)
+        ensures { (rs ss : List Record) (limit : ℕ) → let p = claim.entry.place in let ls = claim.entry.locks.now in p < 32 → length (held_of self.old.book) + length ls ≤ 256 → Rivals (state rs limit self.old) p (map lock_of ls) rivals → state ss limit self.new ≡ grant (state rs limit self.old) p (map lock_of ls) ss (added_at self.old.seats) }
     {
-        self.book.grant(place, locks);
-        self.arrows.put(place, rivals);
+        self.book.grant(claim);
+        self.arrows.put(claim.place, rivals);
     }
 
     // Frees the places with their tickets, locks and arrows; so many more tickets are finished.

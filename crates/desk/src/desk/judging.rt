@@ -1,21 +1,20 @@
 // The refusals that a desk can tell alone.
-ghost use Rattle.std.specs.Prelude.{◌≡◌, ℕ, ◌+◌, ◌<◌, ◌≤◌, List, [], ◌∷◌, length, IfOk, OnOk};
-ghost use Rattle.tree.specs.declared.record.Record.{Record};
+ghost use Rattle.std.specs.Prelude.{◌≡◌, ◌+◌, ◌<◌, ◌≤◌, [], ◌∷◌, length, IfOk, OnOk};
+ghost use Rattle.std.specs.Int.NonZero.{non_zero_u32_get};
 ghost use Rattle.model.specs.Scheduler.{place_of, free_place};
 ghost use Rattle.model.specs.Refusals.{first_row, ticket_rows, open_rows, finish_rows, book_row};
 ghost use Rattle.book.specs.Rows.{held_of};
-ghost use Rattle.desk.specs.States.{state, refusal};
+ghost use Rattle.desk.specs.States.{OverAnyStore, refusal};
 
 use crate::desk::Desk;
 use calls::reason::Reason;
-
-const PLACES: usize = 32;
+use std::num::NonZeroU32;
 
 impl Desk {
     // The place of an open ticket.
     pub fn place_of(&self, ticket: u32) -> Result<usize, Reason>
-        ensures rows { (rs : List Record) (limit : ℕ) → first_row (ticket_rows (state rs limit self.now) ticket) ≡ refusal result }
-        ensures place { IfOk result (λ p. ((rs : List Record) (limit : ℕ) → p ≡ place_of (state rs limit self.now) ticket) × (p < 32)) }
+        ensures rows { OverAnyStore self.now (λ m. first_row (ticket_rows m ticket) ≡ refusal result) }
+        ensures place { IfOk result (λ p. OverAnyStore self.now (λ m. p ≡ place_of m ticket) × (p < 32)) }
     {
         if !self.fit {
             return Err(Reason::Unfit);
@@ -23,35 +22,27 @@ impl Desk {
         if ticket == 0 {
             return Err(Reason::NotOpen);
         }
-        let place = self.seats.place_of(ticket);
-        if place >= PLACES {
-            return Err(Reason::NotOpen);
-        }
-        Ok(place)
+        self.seats.place_of(ticket).ok_or(Reason::NotOpen)
     }
 
-    // The place that a new ticket would take.
-    pub fn place_to_open(&self) -> Result<usize, Reason>
-        ensures rows { (rs : List Record) (limit : ℕ) → first_row (open_rows (state rs limit self.now)) ≡ refusal result }
-        ensures place { IfOk result (λ p. ((rs : List Record) (limit : ℕ) → p ≡ free_place (state rs limit self.now)) × (p < 32)) }
+    // The place that a new ticket would take, and the ticket.
+    pub fn place_to_open(&self) -> Result<(usize, NonZeroU32), Reason>
+        ensures rows { OverAnyStore self.now (λ m. first_row (open_rows m) ≡ refusal result) }
+        ensures place { IfOk result (λ v. OverAnyStore self.now (λ m. v.0 ≡ free_place m) × (v.0 < 32)) }
+        ensures ticket { IfOk result (λ v. OverAnyStore self.now (λ m. non_zero_u32_get v.1 ≡ m.next)) }
     {
         if !self.fit {
             return Err(Reason::Unfit);
         }
-        let place = self.seats.place_of(0);
-        if place >= PLACES {
-            return Err(Reason::Crowded);
-        }
-        if self.next == 0 {
-            return Err(Reason::Spent);
-        }
-        Ok(place)
+        let place = self.seats.place_of(0).ok_or(Reason::Crowded)?;
+        let ticket = self.next.ok_or(Reason::Spent)?;
+        Ok((place, ticket))
     }
 
     // The place of a ticket that may finish.
     pub fn place_to_finish(&self, ticket: u32) -> Result<usize, Reason>
-        ensures rows { (rs : List Record) (limit : ℕ) → first_row (finish_rows (state rs limit self.now) ticket) ≡ refusal result }
-        ensures place { IfOk result (λ p. ((rs : List Record) (limit : ℕ) → p ≡ place_of (state rs limit self.now) ticket) × (p < 32)) }
+        ensures rows { OverAnyStore self.now (λ m. first_row (finish_rows m ticket) ≡ refusal result) }
+        ensures place { IfOk result (λ p. OverAnyStore self.now (λ m. p ≡ place_of m ticket) × (p < 32)) }
     {
         let place = self.place_of(ticket)?;
         if self.arrows.arrow_into(place) {
@@ -62,7 +53,7 @@ impl Desk {
 
     // Whether the lock book has so many free rows.
     pub fn has_rows(&self, count: usize) -> Result<(), Reason>
-        ensures rows { (rs : List Record) (limit : ℕ) → first_row (book_row (state rs limit self.now) count ∷ []) ≡ refusal result }
+        ensures rows { OverAnyStore self.now (λ m. first_row (book_row m count ∷ []) ≡ refusal result) }
         ensures room { OnOk result (length (held_of self.now.book) + count ≤ 256) }
     {
         if self.book.has_room(count) {

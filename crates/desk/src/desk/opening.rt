@@ -14,11 +14,10 @@ impl Desk {
     pub fn open(&mut self) -> Result<u32, Reason>
         ensures { (rs : List Record) (limit : ℕ) → step (state rs limit self.old) opens ≡ (state rs limit self.new, open_answer result) }
     {
-        let place = self.place_to_open()?;
-        let ticket = self.next;
-        self.seats.take(place, ticket);
+        let (place, ticket) = self.place_to_open()?;
+        self.seats.take(place, ticket.get());
         // After the greatest ticket there is none.
-        self.next = ticket.wrapping_add(1);
-        Ok(ticket)
+        self.next = ticket.checked_add(1);
+        Ok(ticket.get())
     }
 }

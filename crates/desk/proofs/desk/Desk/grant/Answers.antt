@@ -20,8 +20,8 @@ held_rows p (l ∷ ls) = ap (λ (hs : List Held). record { holder = p; lock = lo
 pub returns : goal.returns
 returns c rs ss limit low room word =
     let d = c.args.self.now in
-    let p = c.args.place in
-    let ls = c.args.locks.now in
+    let p = c.args.claim.place in
+    let ls = c.args.claim.locks.now in
     let m = state rs limit d in
     let fits : (ltb p 32 && not (ltb 256 (length (held_of d.book) + length ls))) ≡ true = low_and p _ low ∙ ap not (le-ltb 256 (length (held_of d.book) + length ls) room) in
     same_state _ (grant m p (map lock_of ls) ss (added_at d.seats)) refl refl refl refl (λ i. refl) (λ i. refl)
