@@ -87,27 +87,13 @@ fn read_next(
     ensures steps { steps_after classes.now count part.entry.at (bytes_of part.entry) ≡ goes_on (λ end. steps_after classes.now (suc count) end (drop end part.entry.text.now)) result }
     ensures ends { EndsWell count part.entry.at part.entry.text.now result }
 {
-    match first_token(part) {
-        Token::Child => Ok(Some(read_behind(
-            classes,
-            count,
-            false,
-            Part {
-                at: part.at + 1,
-                ..part
-            },
-        )?)),
-        Token::Deep => Ok(Some(read_behind(
-            classes,
-            count,
-            true,
-            Part {
-                at: part.at + 2,
-                ..part
-            },
-        )?)),
-        _ => Ok(None),
-    }
+    let (deep, at) = match first_token(part) {
+        Token::Child => (false, part.at + 1),
+        Token::Deep => (true, part.at + 2),
+        _ => return Ok(None),
+    };
+    let next = read_behind(classes, count, deep, Part { at, ..part })?;
+    Ok(Some(next))
 }
 
 // Reads all of the part as a path expression.
