@@ -104,6 +104,7 @@ pub fn read_path(classes: &Classes, part: Part) -> Result<Path<Name>, PathFault>
     let (first, end) = read_behind(classes, 0, false, part)?;
     let mut path = Path::one(first.test);
     let mut at = end;
+    // A fault leaves the loop from inside, with its place.
     loop {
         let next = match read_next(classes, path.len(), Part { at, ..part }) {
             Ok(next) => next,

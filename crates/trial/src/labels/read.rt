@@ -56,6 +56,7 @@ pub fn read_labels(classes: &Classes, part: Part) -> Result<Labels, PathFault>
     let (first, end) = read_label(classes, 0, part)?;
     let mut labels = Labels::one(first);
     let mut at = end;
+    // A fault leaves the loop from inside, with its place.
     loop {
         if at >= part.text.len() {
             break Ok(labels);
