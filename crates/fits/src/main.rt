@@ -7,9 +7,9 @@ use std::io::{Read, Write};
 use trial::reply::Reply;
 use trial::reply::shows::reply_to;
 
-// Adds the answer to a line to what is to be written.
+// Adds the reply to a line to what is to be written.
 fn answer(classes: &Classes, line: &Line, output: &mut String) -> anyhow::Result<()> {
-    let reply = reply_to(classes, line.bytes());
+    let reply = Reply(reply_to(classes, line.bytes()));
     writeln!(output, "{reply}")?;
     Ok(())
 }
@@ -40,6 +40,7 @@ fn run(rt: &HostRuntime) -> anyhow::Result<()> {
     let mut line = Line::new();
     let mut replies = String::new(rt.alloc());
     let mut buffer = [0u8; 4096];
+    // As good as no end: a loop without one needs the bound Wait.
     for _ in 0..u64::MAX {
         let count = input.read(&mut buffer)?;
         if count == 0 {

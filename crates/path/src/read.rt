@@ -87,27 +87,13 @@ fn read_next(
     ensures steps { steps_after classes.now count part.entry.at (bytes_of part.entry) ≡ goes_on (λ end. steps_after classes.now (suc count) end (drop end part.entry.text.now)) result }
     ensures ends { EndsWell count part.entry.at part.entry.text.now result }
 {
-    match first_token(part) {
-        Token::Child => Ok(Some(read_behind(
-            classes,
-            count,
-            false,
-            Part {
-                at: part.at + 1,
-                ..part
-            },
-        )?)),
-        Token::Deep => Ok(Some(read_behind(
-            classes,
-            count,
-            true,
-            Part {
-                at: part.at + 2,
-                ..part
-            },
-        )?)),
-        _ => Ok(None),
-    }
+    let (deep, at) = match first_token(part) {
+        Token::Child => (false, part.at + 1),
+        Token::Deep => (true, part.at + 2),
+        _ => return Ok(None),
+    };
+    let next = read_behind(classes, count, deep, Part { at, ..part })?;
+    Ok(Some(next))
 }
 
 // Reads all of the part as a path expression.
@@ -118,6 +104,7 @@ pub fn read_path(classes: &Classes, part: Part) -> Result<Path<Name>, PathFault>
     let (first, end) = read_behind(classes, 0, false, part)?;
     let mut path = Path::one(first.test);
     let mut at = end;
+    // A fault leaves the loop from inside, with its place.
     loop {
         let next = match read_next(classes, path.len(), Part { at, ..part }) {
             Ok(next) => next,

@@ -1,17 +1,16 @@
 // A label path as it was written.
-ghost use Rattle.std.specs.Prelude.{◌≡◌, ◌≤◌, length};
+ghost use Rattle.std.specs.Prelude.{◌≤◌, length};
+ghost use Rattle.bounded.specs.Items.{items_of};
 
+use bounded::Bounded;
 use name::name::Name;
 
 pub mod names;
 pub mod read;
 
-// One to sixteen names: the first `count` of the row.
+// One to sixteen names.
 #[derive(Clone, Copy)]
 pub struct Labels {
-    row: [Name; 16],
-    count: usize,
-    ghost full: { length row ≡ 16 },
-    ghost some: { 1 ≤ count },
-    ghost most: { count ≤ 16 },
+    names: Bounded<Name, 16>,
+    ghost some: { 1 ≤ length (items_of names) },
 }

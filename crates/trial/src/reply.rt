@@ -1,11 +1,8 @@
-// What a line is answered.
+// What a line is answered, as it is printed.
 use fitting::fit::Fit;
 use refusal::Refusal;
 
 pub mod shows;
 
 #[derive(Clone, Copy)]
-pub enum Reply {
-    Fits(Fit),
-    Refused(Refusal),
-}
+pub struct Reply(pub Result<Fit, Refusal>);

@@ -56,18 +56,17 @@ pub fn read_labels(classes: &Classes, part: Part) -> Result<Labels, PathFault>
     let (first, end) = read_label(classes, 0, part)?;
     let mut labels = Labels::one(first);
     let mut at = end;
+    // A fault leaves the loop from inside, with its place.
     loop {
         if at >= part.text.len() {
             break Ok(labels);
         }
-        let behind = Part {
-            text: part.text,
-            at: at + 1,
-        };
+        let behind = Part { at: at + 1, ..part };
         let (name, end) = match read_label(classes, labels.len(), behind) {
             Ok(next) => next,
             Err(fault) => break Err(fault),
         };
+        // There is room: no seventeenth label is read.
         let _ = labels.push(name);
         at = end;
     }

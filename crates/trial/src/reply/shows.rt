@@ -11,23 +11,20 @@ use refusal::Refusal;
 use std::fmt;
 
 // What the line is answered, refused or not.
-pub fn reply_to(classes: &Classes, line: &[u8]) -> Reply
+pub fn reply_to(classes: &Classes, line: &[u8]) -> Result<Fit, Refusal>
     ensures { result ≡ reply_of (line_answer classes.now line.now) }
 {
-    match answer_line(classes, line) {
-        Ok(fit) => Reply::Fits(fit),
-        Err(fault) => Reply::Refused(Refusal::from(fault)),
-    }
+    Ok(answer_line(classes, line)?)
 }
 
 impl fmt::Display for Reply {
-    ghost output = { λ x. Some (reply_text x) };
+    ghost output = { λ x. Some (reply_text x.0) };
 
     fn fmt<W: fmt::Write>(&self, f: &mut fmt::Formatter<W>) -> fmt::Result {
-        match self {
-            Reply::Fits(Fit::Yes) => write!(f, "yes"),
-            Reply::Fits(Fit::No) => write!(f, "no"),
-            Reply::Refused(refusal) => write!(f, "{refusal}"),
+        match &self.0 {
+            Ok(Fit::Yes) => write!(f, "yes"),
+            Ok(Fit::No) => write!(f, "no"),
+            Err(refusal) => write!(f, "{refusal}"),
         }
     }
 }

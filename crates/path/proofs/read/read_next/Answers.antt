@@ -1,54 +1,44 @@
-use Rattle.std.proofs.Common.{◌+◌, sym, arith, length-drop}
+use Rattle.std.proofs.Common.{◌≡◌, ℕ, ◌+◌, ◌<◌, Bool, true, false, List, drop, sym, subst, inl, inr, ◌⊎◌, arith}
 use Rattle.std.proofs.lemmas.Result.{err_from_is_err_and}
-use Rattle.name.specs.Names.{bytes_of, spot}
-use Rattle.path.specs.Reading.{step_named}
-use Rattle.path.proofs.Slashes.{child_begins, deep_begins, ends_behind, faults_behind, goes_on_behind, next_is_child, next_is_deep}
+use Rattle.byte_classes.specs.declared.classes.Classes.{Classes}
+use Rattle.name.specs.Names.{spot}
+use Rattle.path.specs.Reading.{step_named, steps_after}
+use Rattle.path.specs.Tokens.{child, deep, token_at}
+use Rattle.path.proofs.Slashes.{StepsFrom, ends_behind, faults_behind, goes_on_behind, next_is_child, next_is_deep}
 use Rattle.path.proofs.read.read_next.Goals as goal
+use Rattle.path.proofs.read.read_next.Goals.{in-Child, in-Deep}
 
-pub overflow_add-part : goal.overflow_add-part
-overflow_add-part c =
-    let p = c.args.part in
-    let some = child_begins p.at (bytes_of p) (sym c.in-Child.ensures) in
-    let size = length-drop p.at p.text.now in
-    omega arith
+-- the next step stands behind one slash, or behind two
+abbrev Behind : ℕ → List ℕ → Bool × ℕ → Type 0
+Behind at text d = (token_at at (drop at text) ≡ child) × (d ≡ (false, at + 1)) ⊎ (token_at at (drop at text) ≡ deep) × (d ≡ (true, at + 2))
 
-pub overflow_add-part-in-Deep : goal.overflow_add-part-in-Deep
-overflow_add-part-in-Deep c =
-    let p = c.args.part in
-    let some = deep_begins p.at (bytes_of p) (sym c.in-Deep.ensures) in
-    let size = length-drop p.at p.text.now in
-    omega arith
+next_behind : (k : Classes) (n at : ℕ) (text : List ℕ) (d : Bool × ℕ) → Behind at text d → StepsFrom k n d.0 d.1 text (steps_after k n at (drop at text)) × (at < d.1)
+next_behind k n at text d (inl (one, is)) = subst (λ (d : Bool × ℕ). StepsFrom k n d.0 d.1 text (steps_after k n at (drop at text)) × (at < d.1)) (sym is) (next_is_child k n at text one, omega arith)
+next_behind k n at text d (inr (two, is)) = subst (λ (d : Bool × ℕ). StepsFrom k n d.0 d.1 text (steps_after k n at (drop at text)) × (at < d.1)) (sym is) (next_is_deep k n at text two, omega arith)
 
-pub returns-in_err-read_behind-in-Child : goal.returns-in_err-read_behind-in-Child
-returns-in_err-read_behind-in-Child c =
+pub returns-in_err-next-clause-steps : goal.returns-in_err-next-clause-steps
+returns-in_err-next-clause-steps c =
     let p = c.args.part in
-    let next = next_is_child c.args.classes.now c.args.count p.at p.text.now (sym c.in-Child.ensures) in
-    let e = faults_behind c.args.classes.now c.args.count (p.at + 1) _ p.text.now _ next c.in_err-read_behind-in-Child.field-0.0 c.in_err-read_behind-in-Child.ensures in
+    let d = c.match-first_token.deep in
+    let b : Behind p.at p.text.now d = elim c.match-first_token.branch [
+      | in-Child w ↦ inl (sym w.in-Child.ensures, w.deep-is)
+      | in-Deep w ↦ inr (sym w.in-Deep.ensures, w.deep-is)
+    ] in
+    let next = next_behind c.args.classes.now c.args.count p.at p.text.now d b in
+    let e = faults_behind c.args.classes.now c.args.count d.1 d.0 p.text.now _ next.0 c.in_err-next.field-0.0 c.in_err-next.ensures in
     let q = err_from_is_err_and c.from_residual.result c.from_residual.ensures.1 in
-    rw (q.1, q.2) (record { steps = e; ends = tt })
+    rw (q.1, q.2) e
 
-pub returns-in_err-read_behind-in-Deep : goal.returns-in_err-read_behind-in-Deep
-returns-in_err-read_behind-in-Deep c =
+pub returns : goal.returns
+returns c =
     let p = c.args.part in
-    let next = next_is_deep c.args.classes.now c.args.count p.at p.text.now (sym c.in-Deep.ensures) in
-    let e = faults_behind c.args.classes.now c.args.count (p.at + 2) _ p.text.now _ next c.in_err-read_behind-in-Deep.field-0.0 c.in_err-read_behind-in-Deep.ensures in
-    let q = err_from_is_err_and c.from_residual-in_err-read_behind-in-Deep.result c.from_residual-in_err-read_behind-in-Deep.ensures.1 in
-    rw (q.1, q.2) (record { steps = e; ends = tt })
-
-pub returns-in_ok-read_behind-in-Child : goal.returns-in_ok-read_behind-in-Child
-returns-in_ok-read_behind-in-Child c =
-    let p = c.args.part in
-    let next = next_is_child c.args.classes.now c.args.count p.at p.text.now (sym c.in-Child.ensures) in
-    let s = c.in_ok-read_behind-in-Child.field-0 in
-    let e = goes_on_behind c.args.classes.now c.args.count (p.at + 1) _ p.text.now _ next (step_named spot s.0) s.1 c.in_ok-read_behind-in-Child.ensures in
-    let w = ends_behind c.args.classes.now c.args.count (p.at + 1) _ p.text.now (step_named spot s.0) s.1 c.in_ok-read_behind-in-Child.ensures in
-    record { steps = e; ends = (w.0, omega (arith, w.2), w.3, w.4) }
-
-pub returns-in_ok-read_behind-in-Deep : goal.returns-in_ok-read_behind-in-Deep
-returns-in_ok-read_behind-in-Deep c =
-    let p = c.args.part in
-    let next = next_is_deep c.args.classes.now c.args.count p.at p.text.now (sym c.in-Deep.ensures) in
-    let s = c.in_ok-read_behind-in-Deep.field-0 in
-    let e = goes_on_behind c.args.classes.now c.args.count (p.at + 2) _ p.text.now _ next (step_named spot s.0) s.1 c.in_ok-read_behind-in-Deep.ensures in
-    let w = ends_behind c.args.classes.now c.args.count (p.at + 2) _ p.text.now (step_named spot s.0) s.1 c.in_ok-read_behind-in-Deep.ensures in
-    record { steps = e; ends = (w.0, omega (arith, w.2), w.3, w.4) }
+    let d = c.match-first_token.deep in
+    let b : Behind p.at p.text.now d = elim c.match-first_token.branch [
+      | in-Child w ↦ inl (sym w.in-Child.ensures, w.deep-is)
+      | in-Deep w ↦ inr (sym w.in-Deep.ensures, w.deep-is)
+    ] in
+    let next = next_behind c.args.classes.now c.args.count p.at p.text.now d b in
+    let s = c.in_ok-next.next in
+    let e = goes_on_behind c.args.classes.now c.args.count d.1 d.0 p.text.now _ next.0 (step_named spot s.0) s.1 c.in_ok-next.ensures in
+    let w = ends_behind c.args.classes.now c.args.count d.1 d.0 p.text.now (step_named spot s.0) s.1 c.in_ok-next.ensures in
+    record { steps = e; ends = (w.0, omega (arith, next.1, w.2), w.3, w.4) }

@@ -1,4 +1,4 @@
-use Rattle.std.proofs.Common.{◌≡◌, ℕ, ◌+◌, List, [], ◌∷◌, ◌++◌, map, length, drop, Ok, Err, Result, sym, refl, ap, ◌∙◌, subst, arith}
+use Rattle.std.proofs.Common.{◌≡◌, ℕ, ◌+◌, List, [], ◌∷◌, ◌++◌, map, length, drop, is_ok, Ok, Err, Result, sym, refl, ap, ◌∙◌, subst, arith}
 use Rattle.std.proofs.lemmas.Result.{err_from_is_err_and}
 use Rattle.std.proofs.lemmas.Bool.{cond-true, lt-ltb}
 use Rattle.byte_classes.specs.declared.classes.Classes.{Classes}
@@ -53,7 +53,7 @@ loop-at-preserved c =
     subst (λ (n : ℕ). ◌≡◌ {A = Next} (Ok (spot l, end)) (read_label k n (at + 1) (drop (at + 1) text))) count c.in-Ok.ensures in
     let well = ends_behind k (length qs) (at + 1) text (spot l) end read in
     let next = goes_on_behind k (length qs) (at + 1) text (labels_after k (length qs) at (drop at text)) (next_at_slash k (length qs) at text (omega arith) c.loop-at.invariant.2) (spot l) end read in
-    let pushed : names_of c.push.new.self ≡ qs ++ l ∷ [] = c.push.ensures.after ∙ cond-true _ _ _ (c.push.ensures.answer ∙ lt-ltb _ _ well.0) in
+    let pushed : names_of c.push.new.self ≡ qs ++ l ∷ [] = c.push.ensures.after ∙ cond-true _ _ _ (ap is_ok (c.push.ensures.answer ∙ cond-true _ _ _ (lt-ltb _ _ well.0))) in
     (subst (λ (us : List Name). ReadTo k text S us end) (sym pushed) (next_read k text S qs at l end c.loop-at.invariant.0 next), well.2, well.3)
 
 pub returns-then-at-part : goal.returns-then-at-part
