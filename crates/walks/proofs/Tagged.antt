@@ -2,7 +2,7 @@
 use Rattle.std.proofs.Common.{◌≡◌, ℕ, ◌+◌, ◌^◌, ◌<◌, Bool, true, false, cond, ◌||◌, eqb, ltb, List, [], ◌∷◌, ◌++◌, map, length, get_or, take, is_some, Some, None, sym, refl, ap, ◌∙◌, subst, arith}
 use lib.Bits.{bit_or}
 use Rattle.std.proofs.lemmas.List.{take_more}
-use Rattle.std.proofs.lemmas.Bool.{cond-true, eqb-true, true≢false}
+use Rattle.std.proofs.lemmas.Bool.{cond-true, eqb-true, lt-ltb, true≢false}
 use Rattle.tree.specs.declared.record.Record.{Record}
 use Rattle.tree.specs.Records.{rises, look, has, over, with_tag, tagged}
 use Rattle.tree.specs.Stores.{Meaning, holding}
@@ -10,6 +10,7 @@ use Rattle.tree.specs.Calls.{tag_after}
 use Rattle.tree.proofs.Look.{look_has, tagged_absent}
 use Rattle.tree.proofs.Rising.{rises_parts, over_absent}
 use Rattle.model.specs.Numbers.{member}
+use Rattle.model.specs.Changes.{with_note, learns}
 use Rattle.walks.specs.Changes.{learns_at}
 use Rattle.walks.proofs.Words.{or_twice}
 
@@ -94,3 +95,7 @@ learns_twice i r = ap (λ (w : ℕ). with_tag r.mark w r) (go (ltb i 32))
     go : (b : Bool) → cond b (bit_or (2 ^ i) (cond b (bit_or (2 ^ i) r.note) r.note)) (cond b (bit_or (2 ^ i) r.note) r.note) ≡ cond b (bit_or (2 ^ i) r.note) r.note
     go true = or_twice (2 ^ i) r.note
     go false = refl
+
+-- at a place that there is
+pub learns_low : (i : ℕ) (ns : List ℕ) (rs : List Record) → i < 32 → changed_in ns (learns_at i) rs ≡ changed_in ns (learns i) rs
+learns_low i ns rs lt = ap (λ (b : Bool). changed_in ns (λ r. with_note r (cond b (bit_or (2 ^ i) r.note) r.note)) rs) (lt-ltb i 32 lt)

@@ -6,6 +6,7 @@ ghost use Rattle.tree.specs.Stores.{holding};
 
 use tree::{Record, Store};
 
+// A trait and no closure, as `Choice` is.
 pub trait Change {
     // The record after the change.
     ghost changed: { Self → Record → Record };

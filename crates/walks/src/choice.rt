@@ -10,6 +10,7 @@ ghost use Rattle.walks.specs.Choices.{chosen_at};
 
 use tree::{ROOT, Record, Store, following};
 
+// A trait and no closure: each contract would need a premise that ties the closure's calls to a test on records.
 pub trait Choice {
     // Whether the record is chosen.
     ghost chosen: { Self → Record → Bool };

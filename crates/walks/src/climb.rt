@@ -85,13 +85,11 @@ pub fn is_seen<S: Store>(store: &S, query: &Query, at: u64, last: Option<u16>) -
     ensures answer { result ≡ fits_way (way (nodes (S.Store.meaning store.now).records) query.now.top at) last query.now.path }
 {
     let path = &query.path.path;
-    match last {
-        Some(label) => {
-            let places = back(path, begin(path, Ending::Closed), &label);
-            climb(store, &Any, query, at, places)
-        }
-        None => climb(store, &Any, query, at, begin(path, Ending::Open)),
-    }
+    let places = match last {
+        Some(label) => back(path, begin(path, Ending::Closed), &label),
+        None => begin(path, Ending::Open),
+    };
+    climb(store, &Any, query, at, places)
 }
 
 // Whether the query finds the node `at`.
