@@ -46,7 +46,7 @@ def functions():
             j += 1
         parameters = re.sub(r"\s+", " ", text[m.end() : j - 1]).strip(" ,")
         rest = text[j:]
-        end = re.search(r"^[ ]*\{$|;$|\{$", rest, re.M)
+        end = re.search(r"^[ ]*\{\}?$|;$|\{$", rest, re.M)
         yield path, m, m.group(1), parameters, rest[: end.start()], rest
 
 

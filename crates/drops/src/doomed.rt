@@ -1,10 +1,8 @@
 // The records that go when a ticket finishes, and when tickets are withdrawn.
-ghost use Rattle.std.specs.Prelude.{◌≡◌, not, ◌==◌, nat_eq};
-ghost use Rattle.tree.specs.Lists.{keep};
+ghost use Rattle.std.specs.Prelude.{◌≡◌, ◌==◌};
 ghost use Rattle.tree.specs.Names.{ticket_part};
 ghost use Rattle.model.specs.Numbers.{member};
-ghost use Rattle.tree.specs.Stores.{holding};
-ghost use Rattle.drops.specs.Doomed.{Downward};
+ghost use Rattle.drops.specs.Doomed.{Drops};
 
 use crate::passes::drop_all;
 use tree::{Record, Store, ticket_of};
@@ -26,8 +24,7 @@ impl Choice for MarkedBy {
 
 // Drops every record that the ticket has marked, where it has marked their children too.
 pub fn drop_marked<S: Store>(store: &mut S, ticket: u32)
-    ensures after { Downward (λ r. nat_eq r.mark ticket) (S.Store.meaning store.old).records → S.Store.meaning store.new ≡ holding (S.Store.meaning store.old) (keep (λ r. not (r.mark == ticket)) (S.Store.meaning store.old).records) }
-    ensures same { (S.Store.meaning store.new).most ≡ (S.Store.meaning store.old).most }
+    ensures { Drops (λ r. (r.mark == ticket)) (S.Store.meaning store.old) (S.Store.meaning store.new) }
 {
     drop_all(store, &MarkedBy { ticket });
 }
@@ -55,8 +52,7 @@ impl<'a> Choice for MadeBy<'a> {
 
 // Drops every record whose node one of the tickets has made, where they have made their children too.
 pub fn drop_made<S: Store>(store: &mut S, tickets: &[u32])
-    ensures after { Downward (λ r. member (ticket_part r.name) tickets.now) (S.Store.meaning store.old).records → S.Store.meaning store.new ≡ holding (S.Store.meaning store.old) (keep (λ r. not (member (ticket_part r.name) tickets.now)) (S.Store.meaning store.old).records) }
-    ensures same { (S.Store.meaning store.new).most ≡ (S.Store.meaning store.old).most }
+    ensures { Drops (λ r. member (ticket_part r.name) tickets.now) (S.Store.meaning store.old) (S.Store.meaning store.new) }
 {
     drop_all(store, &MadeBy { tickets });
 }

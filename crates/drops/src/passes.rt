@@ -2,7 +2,7 @@
 ghost use Rattle.std.specs.Prelude.{◌≡◌, if◌then◌else◌};
 ghost use Rattle.tree.specs.Records.{without};
 ghost use Rattle.tree.specs.Stores.{holding};
-ghost use Rattle.drops.specs.Doomed.{left_by, Downward, may_drop, Dropped};
+ghost use Rattle.drops.specs.Doomed.{may_drop, Dropped, Drops};
 
 use tree::{Store, following};
 use walks::choice::{Choice, chosen_at};
@@ -33,8 +33,7 @@ fn drop_leaves<S: Store, C: Choice>(store: &mut S, choice: &C) -> bool
 
 // Drops every record that is chosen, where the children of a chosen record are chosen.
 pub fn drop_all<S: Store, C: Choice>(store: &mut S, choice: &C)
-    ensures after { Downward (C.Choice.chosen choice.now) (S.Store.meaning store.old).records → S.Store.meaning store.new ≡ holding (S.Store.meaning store.old) (left_by (C.Choice.chosen choice.now) (S.Store.meaning store.old).records) }
-    ensures same { (S.Store.meaning store.new).most ≡ (S.Store.meaning store.old).most }
+    ensures { Drops (C.Choice.chosen choice.now) (S.Store.meaning store.old) (S.Store.meaning store.new) }
 {
     while drop_leaves(store, choice) {}
 }

@@ -1,6 +1,6 @@
 -- The rows of a linked store: its invariant as the laws of a store, and what a name that is found or missed tells of the rows.
-use Rattle.std.proofs.Common.{◌≡◌, ℕ, zero, suc, ◌+◌, ◌<◌, ◌≤◌, Bool, true, false, ◌||◌, leb, List, [], ◌∷◌, length, get_or, Result, Ok, Err, vec_items, sym, refl, ap, subst, arith}
-use Rattle.std.specs.List.{AllWithin, list_any}
+use Rattle.std.proofs.Common.{◌≡◌, ℕ, zero, suc, ◌+◌, ◌<◌, ◌≤◌, true, false, leb, List, [], ◌∷◌, length, get_or, Result, Ok, Err, vec_items, sym, ap, subst, arith}
+use Rattle.std.specs.List.{AllWithin}
 use Rattle.std.specs.List.Sorted.{IsSearchInRange, IsBinarySearchResult, IsNonDecreasingBy, IsPartitionedBy, IsPartitionPoint}
 use Rattle.std.specs.Ordering.{nat_cmp}
 use Rattle.std.proofs.lemmas.Bool.{leb-true, leb-false}
@@ -9,7 +9,6 @@ use Rattle.std.proofs.lemmas.Cmp.{ranked}
 use Rattle.std.proofs.lemmas.List.Sorted.{IsPartitionedBy-leb}
 use Rattle.tree.specs.declared.record.Record.{Record}
 use Rattle.tree.specs.Stores.{Meaning}
-use Rattle.tree.specs.Lists.{some_of}
 use Rattle.tree.specs.Records.{rises, has, seat, fresh}
 use Rattle.tree.proofs.Look.{has_at}
 use Rattle.tree.proofs.Rising.{over_at, rises_parts}
@@ -80,8 +79,3 @@ pub passed : (n i : ℕ) (rs : List Record) → rises rs ≡ true → i ≤ leng
 passed n i rs r b p =
     seat_is (n + 1) i rs r b
     (λ k e z l. (let t = leb-true _ n (p.0 k e z l) in omega arith), λ k e le l. (let t = leb-false _ n (p.1 k e le l) in omega arith))
-
--- the library's word for `some_of`
-pub some_any : (f : Record → Bool) (rs : List Record) → some_of f rs ≡ list_any f rs
-some_any f [] = refl
-some_any f (x ∷ xs) = ap (λ (b : Bool). f x || b) (some_any f xs)

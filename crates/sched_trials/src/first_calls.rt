@@ -11,10 +11,7 @@ const FIRST: u64 = 65_537;
 
 // The number of the refusal, or none.
 fn refusal<T: Drop>(answer: Result<T, Reason>) -> Option<u8> {
-    match answer {
-        Ok(_) => None,
-        Err(reason) => Some(u8::from(reason)),
-    }
+    answer.err().map(u8::from)
 }
 
 // Whether a scheduler over a store with a root answers the calls of ticket 1 as it must.

@@ -1,9 +1,15 @@
 -- Members of lists: of a list that is kept or mapped, and of one whose members a test knows.
-use Rattle.std.proofs.Common.{◌≡◌, ℕ, zero, suc, ◌+◌, ◌<◌, ◌≤◌, Bool, true, false, cond, ◌⊎◌, List, [], ◌∷◌, ◌++◌, map, length, get_or, take, sym, refl, ap, ◌∙◌, inl, inr, add-one, arith}
+use Rattle.std.proofs.Common.{◌≡◌, ℕ, zero, suc, ◌+◌, ◌<◌, ◌≤◌, Bool, true, false, cond, ◌||◌, ◌⊎◌, List, [], ◌∷◌, ◌++◌, map, length, get_or, take, sym, refl, ap, ◌∙◌, inl, inr, add-one, arith}
+use Rattle.std.specs.List.{list_any}
 use Rattle.std.proofs.lemmas.Bool.{true≢false, or_cases, or_parts, or_from, or_left, or_right, and_parts}
 use Rattle.tree.specs.Lists.{In, keep, some_of, all_of}
 
 module _ {A : Type 0} where
+  -- the library's word for it
+  pub some_any : (f : A → Bool) (xs : List A) → some_of f xs ≡ list_any f xs
+  some_any f [] = refl
+  some_any f (x ∷ xs) = ap (λ (b : Bool). f x || b) (some_any f xs)
+
   pub some_true : (f : A → Bool) (xs : List A) → some_of f xs ≡ true → (x : A) × In x xs × (f x ≡ true)
   some_true f [] h = absurd (true≢false (sym h))
   some_true f (x ∷ xs) h = go (or_cases (f x) (some_of f xs) h) (some_true f xs)

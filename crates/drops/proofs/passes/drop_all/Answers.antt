@@ -25,4 +25,4 @@ returns g c =
     let d = c.drop_leaves.ensures.after in
     let most = c.drop_leaves.ensures.same ∙ c.loop.invariant.2 in
     let all = all_dropped f m.records n.records (g.met.S.Store.rising t) (g.met.S.Store.tree t) (d.left ∙ c.loop.invariant.0) (λ r i. c.loop.invariant.1 r (d.from r i)) (d.none c.loop-test.false) in
-    record { after = λ down. held m n (left_by f m.records) (all down) most; same = most }
+    record { left = λ down. held m n (left_by f m.records) (all down) most; same = most }

@@ -2,7 +2,7 @@ use Rattle.std.proofs.Common.{rules, tests, vec_items, sym, ◌∙◌}
 use Rattle.std.proofs.lemmas.Iterator.{YieldsList-from_slice}
 use Rattle.std.proofs.lemmas.Iterator.Search.{any_from_yields_List}
 use Rattle.tree.specs.Records.{child_of}
-use Rattle.linked.proofs.Rows.{some_any}
+use Rattle.tree.proofs.Members.{some_any}
 use Rattle.linked.proofs.Linked.is_parent.Goals as goal
 
 pub returns : goal.returns

@@ -34,7 +34,7 @@ ended_by g c =
     let at = c.in_ok-place.ensures.place in
     let bits : (i : ℕ) → bit c.with-places.result i ≡ member i ps =
     λ i. one_place c.with-places.result c.in_ok-place.place at.1 c.with-places.ensures i ∙ ap (λ (p : ℕ). member i (p ∷ [])) (at.0 rs limit) in
-    let dropped = c.drop_marked.ensures.after (marked_downward m t c.self.invariant rows) in
+    let dropped = c.drop_marked.ensures.left (marked_downward m t c.self.invariant rows) in
     let forgot = c.forget.ensures.listed ps bits ∙ ap (λ (x : Meaning). holding x (forgotten ps x.records)) dropped in
     let freed = c.free.ensures rs left limit ps bits (one_more_fits m t c.self.invariant rows) in
     let after : (ended m t).0 ≡ state (g.S.Store.meaning c.forget.new.store).records (g.S.Store.meaning c.forget.new.store).most c.free.new.self =
