@@ -10,6 +10,7 @@ pub enum Ending {
     Open,
 }
 
+// Not a bool, which would be no plainer: an answer has a definition and a text of its own.
 #[derive(Clone, Copy, PartialEq, Debug)]
 pub enum Fit {
     Yes,

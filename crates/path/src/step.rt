@@ -1,4 +1,5 @@
 // A step of a path expression, over what its names are: names as written, or label codes.
+// Not an `Option`, which would be no plainer: `*` is a test too, and no missing one.
 #[derive(Clone, Copy)]
 pub enum Test<L> {
     // `*`, which every label passes.

@@ -1,7 +1,7 @@
 -- Members of lists: of a list that is kept or mapped, and of one whose members a test knows.
-use Rattle.std.proofs.Common.{◌≡◌, ℕ, zero, suc, ◌+◌, ◌<◌, ◌≤◌, Bool, true, false, cond, ◌||◌, ◌⊎◌, List, [], ◌∷◌, ◌++◌, map, length, get_or, take, sym, refl, ap, ◌∙◌, inl, inr, add-one, arith}
+use Rattle.std.proofs.Common.{◌≡◌, ℕ, zero, suc, ◌<◌, ◌≤◌, Bool, true, false, cond, ◌||◌, ◌⊎◌, List, [], ◌∷◌, ◌++◌, map, length, get_or, sym, refl, ap, ◌∙◌, inl, inr, arith}
 use Rattle.std.specs.List.{list_any}
-use Rattle.std.proofs.lemmas.Bool.{true≢false, or_cases, or_parts, or_from, or_left, or_right, and_parts}
+use Rattle.std.proofs.lemmas.Bool.{true≢false, or_cases, or_parts, or_left, or_right, and_parts}
 use Rattle.tree.specs.Lists.{In, keep, some_of, all_of}
 
 module _ {A : Type 0} where
@@ -27,17 +27,6 @@ module _ {A : Type 0} where
   some_false f [] h x i = elim i [ ]
   some_false f (y ∷ ys) h x (inl p) = ap f p ∙ (or_parts (f y) (some_of f ys) h).0
   some_false f (y ∷ ys) h x (inr i) = some_false f ys (or_parts (f y) (some_of f ys) h).1 x i
-
-  -- none of the first i + 1 passes, where none of the first i does and the next does not
-  pub none_more : (f : A → Bool) (xs : List A) (i : ℕ) (d : A) → i < length xs → some_of f (take i xs) ≡ false → f (get_or xs i d) ≡ false → some_of f (take (i + 1) xs) ≡ false
-  none_more f xs i d h n e = rw add-one (next xs i h n e)
-    where
-      next : (ys : List A) (j : ℕ) → j < length ys → some_of f (take j ys) ≡ false → f (get_or ys j d) ≡ false → some_of f (take (suc j) ys) ≡ false
-      next [] j h n e = absurd (omega arith)
-      next (y ∷ ys) zero h n e = or_from (f y) false e refl
-      next (y ∷ ys) (suc j) h n e =
-          let p = or_parts (f y) (some_of f (take j ys)) n in
-          or_from (f y) (some_of f (take (suc j) ys)) p.0 (next ys j (omega arith) p.1 e)
 
   pub in_at : (xs : List A) (i : ℕ) (d : A) → i < length xs → In (get_or xs i d) xs
   in_at [] i d h = absurd (omega arith)

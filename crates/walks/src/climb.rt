@@ -40,6 +40,7 @@ fn climb<S: Store, C: Choice>(store: &S, choice: &C, query: &Query, at: u64, pla
 {
     let mut node = at;
     let mut left = places;
+    // No index: a way to the root has no more steps than there are records.
     for _ in 0..store.count() {
         if node == query.top {
             return has(left, 0);

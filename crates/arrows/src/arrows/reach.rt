@@ -30,6 +30,7 @@ impl Arrows {
             return 0;
         }
         let mut seen = with(0, place);
+        // No index: 32 rounds suffice.
         for _ in 0..32u32 {
             let next = self.widen(seen);
             if next == seen {

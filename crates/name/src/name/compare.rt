@@ -22,7 +22,7 @@ impl Name {
     }
 }
 
-// Two are equal if they have the same bytes, wherever they were written.
+// Two are equal if they have the same bytes, wherever they were written; a derived test would compare the offsets too.
 impl PartialEq for Name {
     ghost eq = { λ x y. bytes_eq (spot x).bytes (spot y).bytes };
 

@@ -9,8 +9,6 @@ use byte_classes::classes::{Class, Classes};
 use name::fault::{NameCause, NameFault};
 use name::name::{Name, Part};
 use path::fault::PathFault;
-use path::token::Token;
-use path::token::first::first_token;
 
 const MOST: usize = 16;
 

@@ -22,8 +22,7 @@ impl fmt::Display for Reply {
 
     fn fmt<W: fmt::Write>(&self, f: &mut fmt::Formatter<W>) -> fmt::Result {
         match &self.0 {
-            Ok(Fit::Yes) => write!(f, "yes"),
-            Ok(Fit::No) => write!(f, "no"),
+            Ok(fit) => write!(f, "{fit}"),
             Err(refusal) => write!(f, "{refusal}"),
         }
     }

@@ -1,7 +1,7 @@
-use Rattle.std.proofs.Common.{◌≡◌, ℕ, suc, ◌+◌, ◌^◌, ◌<◌, ◌≤◌, Bool, true, false, cond, not, ◌&&◌, ◌||◌, eqb, ltb, List, [], ◌∷◌, map, length, is_some, Some, None, Option, bit_or, refl, ap, ◌∙◌, arith}
+use Rattle.std.proofs.Common.{◌≡◌, ℕ, suc, ◌+◌, ◌<◌, ◌≤◌, Bool, true, false, cond, not, ◌&&◌, ◌||◌, eqb, ltb, List, [], ◌∷◌, map, length, is_some, Some, None, Option, refl, ap, ◌∙◌, arith}
 use mathlib.Core.Bool.{Bool-set}
 use Rattle.std.specs.Coded.{le_prop}
-use Rattle.std.proofs.lemmas.Bool.{ltb-false, leb-false, ne_eqb, cond-true, true≢false, lt-ltb}
+use Rattle.std.proofs.lemmas.Bool.{ltb-false, leb-false, ne_eqb, cond-true, true≢false}
 use Rattle.path.specs.declared.coded.CodedPath.{CodedPath}
 use Rattle.tree.specs.declared.record.Record.{Record}
 use Rattle.tree.specs.Names.{name_of}
@@ -11,11 +11,12 @@ use Rattle.tree.specs.Stores.{Meaning, holding}
 use Rattle.seats.specs.Places.{seat_at}
 use Rattle.desk.proofs.Places.{counted_seat}
 use Rattle.walks.specs.Changes.{learns_at}
+use Rattle.walks.proofs.Tagged.{learns_low}
 use Rattle.model.specs.Numbers.{member}
 use Rattle.model.specs.Rules.{adds, made}
 use Rattle.model.specs.Locks.{Lock, write}
 use Rattle.model.specs.Scheduler.{Model, acts, place_of}
-use Rattle.model.specs.Changes.{new_record, learns, with_note, grant, grown}
+use Rattle.model.specs.Changes.{new_record, grant, grown}
 use Rattle.model.specs.Refusals.{unknown, add_rows}
 use Rattle.model.specs.Calls.{step}
 use Rattle.desk.specs.States.{state}
@@ -36,9 +37,6 @@ not_false false e = absurd (true≢false e)
 known_there : (o : Option Record) (n i : ℕ) → unknown o n i ≡ false → is_some o ≡ true
 known_there None n i e = absurd (true≢false e)
 known_there (Some r) n i e = refl
-
-learned : (p : ℕ) → p < 32 → (x : ℕ) (rs : List Record) → map (λ r. cond (member r.name (x ∷ [])) (learns_at p r) r) rs ≡ map (λ r. cond (member r.name (x ∷ [])) (learns p r) r) rs
-learned p low x rs = λ z. map (λ (r : Record). cond (member r.name (x ∷ [])) (with_note r (cond (lt-ltb p 32 low z) (bit_or (2 ^ p) r.note) r.note)) r) rs
 
 placeable : (limit x n a : ℕ) (rs : List Record) → has x rs ≡ false → eqb a 0 ≡ false → length rs < limit → has n rs ≡ true → may_place limit x n a rs ≡ true
 placeable limit x n a rs new label free there =
@@ -75,7 +73,7 @@ made_by g c room =
     let new : has x rs ≡ false = ap (λ (y : ℕ). has y rs) (named ∙ ap (λ (i : ℕ). name_of t (suc (m.added i))) at.place) ∙ from_health c.self.invariant fit (Bool-set _ false) (λ he. next_name_new m t he tests.1.0) in
     let may = placeable limit x n a rs new tests.1.1.1.1.0 (leb-false limit (length rs) tests.1.1.1.1.1.1.0) (known_there (look n rs) n (place_of m t) tests.1.1.0) in
     let put = c.place.ensures.after ∙ ap (holding (g.S.Store.meaning s.store)) (cond-true (may_place limit x n a rs) (placed (fresh x n a) rs) rs may) in
-    let known = c.teach.ensures.after ∙ (ap (λ (v : Meaning). holding v (map (λ (r : Record). cond (member r.name (x ∷ [])) (learns_at p r) r) v.records)) put ∙ ap (holding (g.S.Store.meaning s.store)) (learned p at.low x (placed (fresh x n a) rs) ∙ made_known p x n a rs new)) in
+    let known = c.teach.ensures.after ∙ (ap (λ (v : Meaning). holding v (map (λ (r : Record). cond (member r.name (x ∷ [])) (learns_at p r) r) v.records)) put ∙ ap (holding (g.S.Store.meaning s.store)) (learns_low p (x ∷ []) (placed (fresh x n a) rs) at.low ∙ made_known p x n a rs new)) in
     let ss = placed (new_record p x n a) rs in
     let done = c.grant.ensures rs ss limit at.low fits found in
     let few' : k < 65535 = omega arith in
