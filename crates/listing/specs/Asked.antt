@@ -1,11 +1,12 @@
 -- What is asked of the rising records is answered by the rows.
-use Rattle.std.specs.Prelude.{◌≡◌, ℕ, ◌<◌, true, List, length, get_or, is_some, Some, None, Option, slice_index_or}
+use Rattle.std.specs.Prelude.{◌≡◌, ℕ, ◌+◌, ◌<◌, true, List, length, get_or, take, is_some, Some, None, Option, slice_index_or}
 use Rattle.std.proofs.Common.{ap, subst, ◌∙◌, arith}
+use Rattle.std.proofs.lemmas.List.{take_more}
 use Rattle.tree.specs.declared.record.Record.{Record}
 use Rattle.tree.specs.Records.{has, look, distinct, fresh}
 use Rattle.tree.specs.Calls.{may_place}
 use Rattle.tree.proofs.Look.{look_sorted, look_at, has_at, length_sorted}
-use Rattle.tree.proofs.Sorting.{has_sorted}
+use Rattle.tree.proofs.Sorting.{has_sorted, nearer, nearest, nearest_push}
 use Rattle.listing.specs.declared.row.Row.{Row}
 use Rattle.listing.specs.Rows.{listed, records_of, new_row, Found}
 use Rattle.listing.specs.RowsLemmas.{length_records, record_at}
@@ -38,6 +39,13 @@ module _ (rows : List Row) (i n : ℕ) (r : Row) (d : Record) (h : i < length ro
   look_row u =
       look_sorted n (listed rows)
       ∙ subst (λ (k : ℕ). look k (listed rows) ≡ Some (slice_index_or (listed rows) i d)) name_listed (look_at (listed rows) i d u within_listed)
+
+  -- a pass over the rows, one row on
+  pub nearest_more : (m : ℕ) → nearest m (take (i + 1) (listed rows)) ≡ nearer m n (nearest m (take i (listed rows)))
+  nearest_more m =
+      ap (nearest m) (take_more (listed rows) i d within_listed)
+      ∙ nearest_push m (take i (listed rows)) (slice_index_or (listed rows) i d)
+      ∙ ap (λ (k : ℕ). nearer m k (nearest m (take i (listed rows)))) name_listed
 
 -- what a search by name tells
 pub found_has : (rows : List Row) (n : ℕ) (o : Option ℕ) → Found rows n o → has n (listed rows) ≡ is_some o

@@ -1,9 +1,12 @@
 -- Rows in preorder: which record a row is, how deep it can be, and on which part of the path its meaning rests.
-use Rattle.std.specs.Prelude.{◌≡◌, ℕ, zero, suc, ◌+◌, ◌-◌, ◌<◌, ◌≤◌, true, ◌&&◌, ◌≢◌, List, [], ◌∷◌, length, get_or, take, nat_le, slice_index_or, refl}
+use Rattle.std.specs.Prelude.{◌≡◌, ℕ, zero, suc, ◌+◌, ◌-◌, ◌<◌, ◌≤◌, Bool, true, ◌&&◌, ◌≢◌, List, [], ◌∷◌, ◌++◌, length, get_or, take, ◌==◌, nat_le, slice_index_or, refl}
 use Rattle.std.proofs.Common.{sym, ap, ◌∙◌, arith}
+use Rattle.std.proofs.lemmas.List.{take_more}
 use Rattle.std.proofs.lemmas.Bool.{and_parts, and_from, leb-true, le-leb}
 use Rattle.std.proofs.lemmas.Bool.Decides.{nat_tests}
 use Rattle.tree.specs.declared.record.Record.{Record}
+use Rattle.tree.specs.Lists.{some_of}
+use Rattle.tree.specs.Records.{has}
 use Rattle.listing.specs.declared.row.Row.{Row}
 use Rattle.listing.specs.Rows.{record_of, noted, path_on, records_on, nested, flat}
 
@@ -21,8 +24,27 @@ record_at path (x ∷ xs) (suc i) r d h = record_at (noted path x) xs i r d (ome
 pub record_read : (path : ℕ → ℕ) (rows : List Row) (i : ℕ) (r : Row) (d : Record) → i < length rows → r ≡ slice_index_or rows i r → record_of (path_on path (take i rows) (r.depth - 1)) r ≡ slice_index_or (records_on path rows) i d
 record_read path rows i r d h is = ap (λ (y : Row). record_of (path_on path (take i rows) (y.depth - 1)) y) is ∙ sym (record_at path rows i r d h)
 
+path_push : (path : ℕ → ℕ) (rows : List Row) (r : Row) (k : ℕ) → path_on path (rows ++ (r ∷ [])) k ≡ noted (path_on path rows) r k
+path_push path [] r k = refl
+path_push path (x ∷ xs) r k = path_push (noted path x) xs r k
+
+-- one row back on the path, from the row that was read there
+pub path_back : (path : ℕ → ℕ) (rows : List Row) (i : ℕ) (r : Row) (k : ℕ) → 0 < i → i ≤ length rows → r ≡ slice_index_or rows (i - 1) r → path_on path (take i rows) k ≡ noted (path_on path (take (i - 1) rows)) r k
+path_back path rows i r k z h is =
+    let e : i ≡ (i - 1) + 1 = omega arith in
+    let t : take i rows ≡ take (i - 1) rows ++ (r ∷ []) = ap (λ (j : ℕ). take j rows) e ∙ take_more rows (i - 1) r (omega arith) ∙ ap (λ (y : Row). take (i - 1) rows ++ (y ∷ [])) (sym is) in
+    ap (λ (rs : List Row). path_on path rs k) t ∙ path_push path (take (i - 1) rows) r k
+
 pub name_read : (rows : List Row) (i n : ℕ) (r : Row) → r ≡ slice_index_or rows i r → (get_or rows i r).name ≡ n → r.name ≡ n
 name_read rows i n r is e = ap (λ (y : Row). y.name) is ∙ e
+
+-- the row has this name
+abbrev pub named : ℕ → Row → Bool
+named n r = r.name == n
+
+pub has_named : (n : ℕ) (path : ℕ → ℕ) (rows : List Row) → has n (records_on path rows) ≡ some_of (named n) rows
+has_named n path [] = refl
+has_named n path (r ∷ rs) = let t = has_named n (noted path r) rs in grind (arith, nat_tests)
 
 -- ── depths ──
 pub nested_parts : (low top : ℕ) (r : Row) (rs : List Row) → nested low top (r ∷ rs) ≡ true → (low ≤ r.depth) × (r.depth ≤ top) × (nested 1 (suc r.depth) rs ≡ true)

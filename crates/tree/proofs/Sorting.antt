@@ -1,6 +1,6 @@
 -- Records in any order, and the rising list of them: what is asked of one is answered by the other, and each change
 -- of one is a change of the other. A store that keeps its rows in an order of its own means the rising list.
-use Rattle.std.proofs.Common.{◌≡◌, ℕ, zero, suc, ◌<◌, Bool, true, false, cond, not, ◌&&◌, ◌||◌, eqb, ltb, List, [], ◌∷◌, length, get_or, set, is_some, Some, None, Option, sym, refl, ap, ◌∙◌, subst, inl, inr, arith}
+use Rattle.std.proofs.Common.{◌≡◌, ℕ, zero, suc, ◌<◌, Bool, true, false, cond, not, ◌&&◌, ◌||◌, eqb, ltb, List, [], ◌∷◌, ◌++◌, length, get_or, set, is_some, Some, None, Option, sym, refl, ap, ◌∙◌, subst, inl, inr, arith}
 use Rattle.std.proofs.lemmas.Bool.{and_parts, and_from, not-true, not_from_false}
 use Rattle.std.proofs.lemmas.Bool.Decides.{nat_tests}
 use Rattle.tree.specs.declared.record.Record.{Record}
@@ -71,6 +71,15 @@ next_sorted n [] d = refl
 next_sorted n (r ∷ rs) d =
     let p = and_parts (not (has r.name rs)) (distinct rs) d in
     next_placed n r (sorted rs) (rises_sorted rs p.1) ∙ ap (λ (o : Option ℕ). nearer n r.name o) (next_sorted n rs p.1)
+
+nearer_swap : (n k j : ℕ) (o : Option ℕ) → nearer n k (nearer n j o) ≡ nearer n j (nearer n k o)
+nearer_swap n k j None = grind (arith, nat_tests)
+nearer_swap n k j (Some i) = grind (arith, nat_tests)
+
+-- one more row
+pub nearest_push : (n : ℕ) (rs : List Record) (r : Record) → nearest n (rs ++ (r ∷ [])) ≡ nearer n r.name (nearest n rs)
+nearest_push n [] r = refl
+nearest_push n (x ∷ xs) r = ap (λ (o : Option ℕ). nearer n x.name o) (nearest_push n xs r) ∙ nearer_swap n x.name r.name (nearest n xs)
 
 -- ── a row put in anywhere ──
 pub look_inserted : (n : ℕ) (rs : List Record) (i : ℕ) (r : Record) → has r.name rs ≡ false → look n (insert rs i r) ≡ cond (eqb r.name n) (Some r) (look n rs)
