@@ -7,6 +7,7 @@ ghost use Rattle.tree.specs.Records.{rises, labelled};
 ghost use Rattle.tree.specs.Trees.{nodes, IsTree};
 
 mod find;
+mod make;
 pub mod store;
 
 use tree::Record;

@@ -2,7 +2,6 @@
 ghost use Rattle.std.proofs.Common.{rules};
 
 use crate::Linked;
-use std::alloc::{AllocError, Global};
 use tree::{Record, Refused, Store};
 
 impl Store for Linked {
@@ -23,12 +22,6 @@ impl Store for Linked {
     ghost bounded = { Prim.search rules };
 
     ghost small = { Prim.search rules };
-
-    fn new(heap: Global, rows: usize) -> Result<Linked, AllocError> {
-        let limit = rows.min(Self::LARGEST);
-        let rows = Vec::with_capacity(heap, limit)?;
-        Ok(Linked { rows, limit })
-    }
 
     fn count(&self) -> usize {
         self.rows.len()

@@ -3,6 +3,7 @@
 
 mod find;
 mod listing;
+mod make;
 mod row;
 mod store;
 

@@ -6,7 +6,6 @@ ghost use Rattle.listing.specs.Asked.{length_records_of};
 
 use crate::listing::Listing;
 use crate::row::Row;
-use std::alloc::{AllocError, Global};
 use tree::{Record, Refused, Store};
 
 impl Store for Listing {
@@ -30,12 +29,6 @@ impl Store for Listing {
     ghost bounded = { Prim.search rules };
 
     ghost small = { Prim.search rules };
-
-    fn new(heap: Global, rows: usize) -> Result<Listing, AllocError> {
-        let limit = rows.min(Self::LARGEST);
-        let rows = Vec::with_capacity(heap, limit)?;
-        Ok(Listing { rows, limit })
-    }
 
     fn count(&self) -> usize {
         self.rows.len()

@@ -4,7 +4,7 @@ use linked::Linked;
 use listing::Listing;
 use sched::scheduler::Scheduler;
 use std::test::Fail;
-use tree::{ROOT, Store};
+use tree::{Made, ROOT, Store};
 
 // The first node that ticket 1 makes.
 const FIRST: u64 = 65_537;

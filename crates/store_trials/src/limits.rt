@@ -3,7 +3,7 @@ use linked::Linked;
 use listing::Listing;
 use std::alloc::Global;
 use std::test::Fail;
-use tree::{ROOT, Store};
+use tree::{Made, ROOT, Store};
 
 // Whether an empty store takes as many children of the root as its limit says, and no more.
 fn fills<S: Store>(store: &mut S, limit: usize) -> bool {
@@ -15,7 +15,7 @@ fn fills<S: Store>(store: &mut S, limit: usize) -> bool {
 }
 
 // Whether a store that is made for so many rows has the limit, and takes as many.
-fn made_fills<S: Store + Drop>(heap: Global, rows: usize, limit: usize) -> Result<bool, Fail> {
+fn made_fills<S: Made + Drop>(heap: Global, rows: usize, limit: usize) -> Result<bool, Fail> {
     Ok(fills(&mut S::new(heap, rows)?, limit))
 }
 

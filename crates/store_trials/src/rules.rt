@@ -4,12 +4,12 @@ use linked::Linked;
 use listing::Listing;
 use std::alloc::Global;
 use std::test::Fail;
-use tree::Store;
+use tree::Made;
 
 const PLACE_ROOT: Op = Op::Place(0, 0, 1);
 
 // Whether a store of this kind gives these answers.
-fn one<S: Store + Drop>(heap: Global, steps: &[(Op, Answer)]) -> Result<bool, Fail> {
+fn one<S: Made + Drop>(heap: Global, steps: &[(Op, Answer)]) -> Result<bool, Fail> {
     Ok(expect(&mut S::new(heap, 8)?, steps))
 }
 

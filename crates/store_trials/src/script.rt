@@ -3,7 +3,7 @@ use crate::ops::{Answer, Op, answers};
 use linked::Linked;
 use listing::Listing;
 use std::test::Fail;
-use tree::Store;
+use tree::Made;
 
 const SCRIPT: [Op; 34] = [
     // an empty store takes the root alone

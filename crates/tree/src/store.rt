@@ -1,13 +1,12 @@
 // A store of records, known by its meaning alone: the records, rising by name, and the limit.
 // The records are empty or a tree with the root `0.0`.
-ghost use Rattle.std.specs.Prelude.{◌≡◌, ℕ, ◌≤◌, min, true, [], length, IfOk};
+ghost use Rattle.std.specs.Prelude.{◌≡◌, ℕ, ◌≤◌, true, length};
 ghost use Rattle.tree.specs.Records.{rises, labelled, look, next_name};
 ghost use Rattle.tree.specs.Trees.{nodes, IsTree};
 ghost use Rattle.tree.specs.Stores.{Meaning, holding};
 ghost use Rattle.tree.specs.Calls.{place_answer, place_after, tag_answer, tag_after, discard_answer, discard_after};
 
 use crate::record::{Record, Refused};
-use std::alloc::{AllocError, Global};
 
 pub trait Store: Sized {
     // The largest limit of a store of this kind.
@@ -22,10 +21,6 @@ pub trait Store: Sized {
     {
         Self::LARGEST
     }
-
-    // An empty store for `rows` records, or for the largest number where `rows` is more. All its memory is reserved here.
-    fn new(heap: Global, rows: usize) -> Result<Self, AllocError>
-        ensures made { IfOk result (λ s. meaning s ≡ record { records = []; most = min rows LARGEST }) };
 
     fn count(&self) -> usize
         ensures answer { result ≡ length (meaning self.now).records };

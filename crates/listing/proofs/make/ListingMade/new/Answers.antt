@@ -1,6 +1,6 @@
 use Rattle.std.proofs.Common.{vec_items, arith}
 use Rattle.listing.proofs.Kept.{well_empty}
-use Rattle.listing.proofs.store.ListingStore.new.Goals as goal
+use Rattle.listing.proofs.make.ListingMade.new.Goals as goal
 
 pub invariant_of-result : goal.invariant_of-result
 invariant_of-result c =

@@ -1,7 +1,7 @@
 use Rattle.std.proofs.Common.{List, sym, subst, arith}
 use Rattle.tree.specs.declared.record.Record.{Record}
 use Rattle.tree.proofs.Kept.{Sound, sound_empty}
-use Rattle.linked.proofs.store.LinkedStore.new.Goals as goal
+use Rattle.linked.proofs.make.LinkedMade.new.Goals as goal
 
 pub invariant_of-result : goal.invariant_of-result
 invariant_of-result c =
