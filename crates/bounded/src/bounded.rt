@@ -6,7 +6,8 @@ use std::alloc::AllocError;
 pub mod change;
 pub mod read;
 
-// At most `N` items: the first `len` of the row. (`Clone` cannot be derived for a generic struct with a ghost field.)
+// At most `N` items: the first `len` of the row. It can be copied, which the kit's `ArrayVec` cannot; `Clone` is written out, since it
+// cannot be derived for a generic struct with a ghost field.
 pub struct Bounded<T, const N: usize> {
     row: [T; N],
     len: usize,

@@ -1,7 +1,8 @@
 // What a call is answered.
 use crate::reason::Reason;
 
-// A list stands at the start of the buffer that the caller lends; its answer has the length.
+// By rule a list stands at the start of the buffer that the caller lends, and its answer has the length; a refusal is an answer, with a
+// number as each has its values.
 #[derive(Clone, Copy, PartialEq, Debug)]
 pub enum Answer {
     Ticket(u32),

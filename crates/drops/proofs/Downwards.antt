@@ -1,5 +1,5 @@
 -- Where what is left is a tree, the children of what is chosen are chosen.
-use Rattle.std.proofs.Common.{◌≡◌, ℕ, Bool, true, false, not, eqb, ◌≢◌, List, [], ◌∷◌, map, sym, refl, ap, ◌∙◌, subst, ⊎_elim}
+use Rattle.std.proofs.Common.{◌≡◌, ℕ, Bool, true, false, not, eqb, ◌≢◌, List, sym, refl, ap, ◌∙◌, subst, ⊎_elim}
 use Rattle.std.proofs.lemmas.Bool.{true≢false, both_ways, cases_Bool, and_parts, eqb-true, eq-eqb}
 use Rattle.tree.specs.declared.record.Record.{Record}
 use Rattle.tree.specs.Lists.{In}
@@ -9,11 +9,6 @@ use Rattle.tree.proofs.Members.{keep_from, keep_to, map_to, map_from}
 use Rattle.tree.proofs.Rising.{rises_distinct}
 use Rattle.tree.proofs.Leaves.{record_one}
 use Rattle.drops.specs.Doomed.{left_by, Downward}
-
--- a change of marks and notes leaves the nodes
-pub nodes_same : (g : Record → Record) → ((r : Record) → bare (g r) ≡ bare r) → (rs : List Record) → nodes (map g rs) ≡ nodes rs
-nodes_same g h [] = refl
-nodes_same g h (r ∷ rs) = λ x. h r x ∷ nodes_same g h rs x
 
 module _ (f : Record → Bool) (rs : List Record) (u : rises rs ≡ true) (is : IsTree (nodes (left_by f rs))) where
   -- a node that is left is that of the record with its name

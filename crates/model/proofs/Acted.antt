@@ -21,10 +21,6 @@ use Rattle.model.proofs.Turn.{rival_open, seat, t0}
 use Rattle.model.proofs.Replays.{history, history_act, reach_numbered, known_filed}
 
 -- ── records ──
-pub nodes_map : (f : Record → Record) → ((r : Record) → bare (f r) ≡ bare r) → (rs : List Record) → nodes (map f rs) ≡ nodes rs
-nodes_map f k [] = refl
-nodes_map f k (r ∷ rs) = ap (λ y. y ∷ nodes (map f rs)) (k r) ∙ ap (λ ys. bare r ∷ ys) (nodes_map f k rs)
-
 pub place_nodes : (x : Record) (rs : List Record) → nodes (placed x rs) ≡ insert (bare x) (nodes rs)
 place_nodes x [] = refl
 place_nodes x (r ∷ rs) = go (ltb r.name x.name) (place_nodes x rs)

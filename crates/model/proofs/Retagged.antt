@@ -16,7 +16,8 @@ use Rattle.model.proofs.MixedRun.{Ground, Adds, act, Recorded, TakesTurn}
 use Rattle.model.proofs.Keys.{map_from, map_up, Up}
 use Rattle.model.proofs.Tied.{event_of, events, st, mix, Books, Seats, Tied, block_own, block_other}
 use Rattle.model.proofs.Replays.{history, history_act}
-use Rattle.model.proofs.Acted.{nodes_map, rec_more, rec_less}
+use Rattle.tree.proofs.Trees.{nodes_same}
+use Rattle.model.proofs.Acted.{rec_more, rec_less}
 
 module _ (g : Ground) (gf : g.fits ≡ fits) (ga : g.fits_any ≡ fits_any) (h : Log) (m : Model) (nx : ℕ) (ti : Tied g h m nx) where
   abbrev S : State CodedPath
@@ -53,14 +54,14 @@ module _ (g : Ground) (gf : g.fits ≡ fits) (ga : g.fits_any ≡ fits_any) (h :
         → Books g S' hist' m.tickets (map f R)
     same_books mo mb nk nf = record {
       up = subst Up (sym (map_up (λ (r : Record). r.name) f (λ r. ap (λ (y : Node). y.name) (same r)) R)) bk.up;
-      leads = subst (λ ys. (y : Node) → In y ys → (d : ℕ) × Depth ys y.name d) (sym (nodes_map f same R)) bk.leads;
+      leads = subst (λ ys. (y : Node) → In y ys → (d : ℕ) × Depth ys y.name d) (sym (nodes_same f same R)) bk.leads;
       from = λ r i. let q = map_from f R r i in let k = bk.from q.0 q.1 in (
         rec_more g gf ga h m nx ti room b a (map f R) added acc op (bare r) (subst (Recorded g (All S)) (sym (ap bare q.2 ∙ same q.0)) k.0),
         λ t. k.1 (t.0, t.1, subst (Takes t.0) (ap (λ (v : Record). v.name) q.2 ∙ ap (λ (y : Node). y.name) (same q.0)) t.2),
       );
-      to = λ y rc ng. subst (In y) (sym (nodes_map f same R))
+      to = λ y rc ng. subst (In y) (sym (nodes_same f same R))
           (elim (rec_less g gf ga h m nx ti room b a (map f R) added acc op y rc) [ inl k ↦ bk.to y k ng | inr ad ↦ absurd (none_added y ad) ]);
-      listed = λ y i. history_act g ti.reach (event_of b a) (mix h' m' nx) tk y (bk.listed y (subst (In y) (nodes_map f same R) i));
+      listed = λ y i. history_act g ti.reach (event_of b a) (mix h' m' nx) tk y (bk.listed y (subst (In y) (nodes_same f same R) i));
       gone_listed = λ d i x k. let z = bk.gone_listed d i x k in (z.0, history_act g ti.reach (event_of b a) (mix h' m' nx) tk z.0 z.1, z.2);
       mark_of = λ r i u d o j k. let q = map_from f R r i in
           ap (λ (v : Record). v.mark) q.2 ∙ mo q.0 q.1 u d o j (subst (Takes d) (nm q.0 r q.2) k);

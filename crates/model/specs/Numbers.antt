@@ -2,13 +2,18 @@
 --     member n ns       n is one of the numbers ns
 --     Distinct ns       no number stands twice in ns
 --     places            the 32 places
+--     HasJust w ps      the word w has just the places ps
 --     lowest f          the lowest place of which f says yes, 32 where there is none
 --     sorted ns         the numbers ns, rising
-use Rattle.std.specs.Prelude.{ℕ, zero, suc, Bool, cond, List, [], ◌∷◌, nat_eq, nat_le}
+use Rattle.std.specs.Prelude.{◌≡◌, ℕ, zero, suc, Bool, cond, List, [], ◌∷◌, nat_eq, nat_le}
+use Rattle.words.specs.Words.{bit}
 use Rattle.tree.specs.Lists.{In, some_of}
 
 abbrev pub member : ℕ → List ℕ → Bool
 member n ns = some_of (nat_eq n) ns
+
+abbrev pub HasJust : ℕ → List ℕ → Type 0
+HasJust w ps = (q : ℕ) → bit w q ≡ member q ps
 
 abbrev pub Distinct : List ℕ → Type 0
 Distinct [] = Unit {0}

@@ -8,8 +8,8 @@ pub mod compare;
 pub mod cut;
 pub mod read;
 
-// The bytes of a text from `at` to its end. The classes of bytes are no part of it: a reading is given them as a value, by rule,
-// and two parts are read by the same.
+// The bytes of a text from `at` to its end. The classes of bytes are no part of it: they are a value that each reading is given
+// (docs/rules.md), and two parts are read by the same.
 #[derive(Clone, Copy)]
 pub struct Part<'a> {
     pub text: &'a [u8],

@@ -3,6 +3,7 @@
 --   onward r f             the answer f of what r gives, or the fault of r
 --   step_test c at p       the test that the bytes p of one step are, at the offset at: `*`, or a name
 --   excess c at p          the fault of a ninth step p; at one place an empty step and a bad byte are told first
+--   surplus c at b         the fault of one step or label too many that begins with the byte b; a bad byte is told first
 --   next_test c n at p     the test of a step p behind n others
 --   add_step c n d at bs r the step at the front of bs, behind n others, and then the steps r
 --   steps_after c n at bs  the steps behind the slashes of bs, where n steps are read
@@ -47,6 +48,9 @@ step_test c at (b ∷ bs) = cond (b == 42) (star_test (at + 1) bs) (onward (in_p
 abbrev pub excess : Classes → ℕ → List ℕ → PathFault
 excess c at [] = fault_in.Empty at
 excess c at (b ∷ bs) = cond (b == 42 || begins (class_of c b)) (fault_in.Many at) (fault_in.Name (fault Byte at))
+
+abbrev pub surplus : Classes → ℕ → ℕ → PathFault
+surplus c at b = cond (begins (class_of c b)) (fault_in.Many at) (fault_in.Name (fault Byte at))
 
 abbrev pub next_test : Classes → ℕ → ℕ → List ℕ → Result (Test Spot) PathFault
 next_test c n at p = cond (nat_lt n 8) (step_test c at p) (Err (excess c at p))

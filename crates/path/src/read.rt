@@ -3,7 +3,7 @@ ghost use Rattle.std.specs.Prelude.{◌≡◌, suc, ◌<◌, ◌≤◌, true, le
 ghost use Rattle.name.specs.Names.{bytes_of};
 ghost use Rattle.path.specs.Grammar.{AcceptsPaths};
 ghost use Rattle.path.specs.Pieces.{piece, at_slash};
-ghost use Rattle.path.specs.Reading.{excess, read_step, read_path, steps_after, goes_on, EndsWell, read_behind, seen_step, seen_next, seen_path};
+ghost use Rattle.path.specs.Reading.{excess, surplus, read_step, read_path, steps_after, goes_on, EndsWell, read_behind, seen_step, seen_next, seen_path};
 
 use crate::fault::PathFault;
 use crate::path::Path;
@@ -43,6 +43,19 @@ fn read_step(classes: &Classes, part: Part) -> Result<(Test<Name>, usize), PathF
     }
 }
 
+// The fault of one step or label too many that begins with the byte; a bad byte is told first.
+pub fn surplus(classes: &Classes, byte: u8, at: usize) -> PathFault
+    ensures { result ≡ surplus classes.now at byte }
+{
+    match classes.class_of(byte) {
+        Class::Begins => PathFault::Many(at),
+        Class::Follows | Class::Outside => PathFault::Name(NameFault {
+            cause: NameCause::Byte,
+            at,
+        }),
+    }
+}
+
 // The fault of a ninth step: at one place an empty step and a bad byte are told first.
 fn excess(classes: &Classes, part: Part) -> PathFault
     ensures { result ≡ excess classes.now part.entry.at (piece (bytes_of part.entry)) }
@@ -51,13 +64,7 @@ fn excess(classes: &Classes, part: Part) -> PathFault
     match part.text.get(at) {
         None | Some(b'/') => PathFault::Empty(at),
         Some(b'*') => PathFault::Many(at),
-        Some(byte) => match classes.class_of(*byte) {
-            Class::Begins => PathFault::Many(at),
-            Class::Follows | Class::Outside => PathFault::Name(NameFault {
-                cause: NameCause::Byte,
-                at,
-            }),
-        },
+        Some(byte) => surplus(classes, *byte, at),
     }
 }
 
@@ -104,7 +111,7 @@ pub fn read_path(classes: &Classes, part: Part) -> Result<Path<Name>, PathFault>
     let (first, end) = read_behind(classes, 0, false, part)?;
     let mut path = Path::one(first.test);
     let mut at = end;
-    // A fault leaves the loop from inside, with its place.
+    // By rule the loop is left from inside, with the fault and its place.
     loop {
         let next = match read_next(classes, path.len(), Part { at, ..part }) {
             Ok(next) => next,

@@ -8,6 +8,7 @@ pub enum Test<L> {
 }
 
 // `/` and a test, or `//` and a test, which leaves zero or more labels in front of the one that it tests.
+// `deep` is a property of the step, and doesn't say whether the test counts.
 #[derive(Clone, Copy)]
 pub struct Step<L> {
     pub deep: bool,

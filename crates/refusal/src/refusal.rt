@@ -8,8 +8,8 @@ pub enum Layer {
     Line,
 }
 
-// The number of the fault, the byte offset where it is, and the layer that found it. The number is what is printed, as it is
-// stated; the faults themselves are enums of their layers.
+// The number of the fault, the byte offset where it is, and the layer that found it. The number is what is printed
+// (docs/refusals.md); the faults themselves are enums of their layers.
 #[derive(Clone, Copy)]
 pub struct Refusal {
     pub number: u8,

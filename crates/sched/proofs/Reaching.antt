@@ -22,7 +22,8 @@ use Rattle.model.specs.Health.{Healthy}
 use Rattle.model.proofs.Tied.{seat_of}
 use Rattle.model.proofs.Health.{health}
 use Rattle.drops.specs.Doomed.{Downward}
-use Rattle.drops.proofs.Downwards.{nodes_same, downward}
+use Rattle.tree.proofs.Trees.{nodes_same}
+use Rattle.drops.proofs.Downwards.{downward}
 use Rattle.desk.proofs.Rows.{judged}
 use Rattle.sched.specs.Whole.{Reached}
 

@@ -5,6 +5,7 @@ use tree::Store;
 
 pub mod judging;
 pub mod make;
+pub mod parts;
 pub mod tickets;
 pub mod writes;
 
@@ -14,7 +15,7 @@ pub struct Scheduler<S: Store> {
     desk: Desk,
 }
 
-// Contracts see the parts: a value is data, and the state that they give has functions.
+// The view is the parts and not the model's state, which holds functions: their equality cannot be decided.
 impl<S: Store> Model for Scheduler<S> {
     ghost use Rattle.sched.specs.Whole.{Parts, state_of, Reached};
 

@@ -5,7 +5,7 @@ pub mod change;
 pub mod read;
 
 // What stands at a place: its ticket, 0 where the place is free, and how many additions were accepted of that ticket.
-// Not an `Option` of a seat: additions are counted at a free place too, as is promised, and the rules say 0 for no ticket.
+// Not an `Option` of a seat: `count_up` promises to count at a free place too, and the rules say 0 for no ticket.
 #[derive(Clone, Copy)]
 pub struct Seat {
     pub ticket: u32,

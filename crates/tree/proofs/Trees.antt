@@ -1,5 +1,5 @@
 -- Trees: a tree is known by its members, and stays one when a record is placed, tagged or taken out.
-use Rattle.std.proofs.Common.{◌≡◌, ℕ, suc, true, false, ◌≢◌, ◌⊎◌, List, [], ◌∷◌, sym, refl, ap, ◌∙◌, subst, inl, inr, arith}
+use Rattle.std.proofs.Common.{◌≡◌, ℕ, suc, true, false, ◌≢◌, ◌⊎◌, List, [], ◌∷◌, map, sym, refl, ap, ◌∙◌, subst, inl, inr, arith}
 use mathlib.Core.Logic.{∥∥₁_elim}
 use mathlib.Core.Bool.{Bool-set}
 use Rattle.std.proofs.lemmas.Bool.{eq-eqb, ne_eqb, both_ways}
@@ -10,6 +10,11 @@ use Rattle.tree.specs.Records.{has, is_parent, child_of, placed, tagged, without
 use Rattle.tree.specs.Trees.{Node, node_of, bare, nodes, Depth, top, down, IsTree}
 use Rattle.tree.proofs.Members.{map_to, map_from, some_false}
 use Rattle.tree.proofs.Look.{look_in, look_name, has_look, in_has, in_placed, placed_in, in_without, without_in}
+
+-- a change that leaves each node
+pub nodes_same : (g : Record → Record) → ((r : Record) → bare (g r) ≡ bare r) → (rs : List Record) → nodes (map g rs) ≡ nodes rs
+nodes_same g h [] = refl
+nodes_same g h (r ∷ rs) = λ x. h r x ∷ nodes_same g h rs x
 
 -- ── members ──
 pub depth_among : (ys zs : List Node) → ((y : Node) → In y ys → In y zs) → {n d : ℕ} → Depth ys n d → Depth zs n d

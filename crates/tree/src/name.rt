@@ -1,6 +1,6 @@
 // A node's name, written `t.k`: the ticket `t` that made the node, times 65,536, plus a count `k`.
-// A loaded node has ticket 0, and the root is `0.0`. Names stay numbers of 64 bits, as the format of records states them, and no
-// conversion of Rust's own can be given for two numbers.
+// A loaded node has ticket 0, and the root is `0.0`. Names stay numbers of 64 bits, as the format of records states them, and `From`
+// cannot be written for a pair of numbers.
 ghost use Rattle.std.specs.Prelude.{◌≡◌};
 ghost use Rattle.tree.specs.Names.{name_of, ticket_part, count_part};
 

@@ -23,10 +23,7 @@ pub trait Choice {
 pub fn chosen_at<S: Store, C: Choice>(store: &S, choice: &C, name: u64) -> bool
     ensures { result ≡ chosen_at (C.Choice.chosen choice.now) (look name (S.Store.meaning store.now).records) }
 {
-    match store.look(name) {
-        Some(node) => choice.is_chosen(&node),
-        None => false,
-    }
+    store.look(name).is_some_and(|node| choice.is_chosen(&node))
 }
 
 // Whether the store has a record that is chosen.

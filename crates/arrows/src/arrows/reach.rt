@@ -1,7 +1,7 @@
 // What is reached along arrows.
 ghost use Rattle.std.specs.Prelude.{◌≡◌, ℕ, ◌&&◌, List, nat_lt};
 ghost use Rattle.words.specs.Words.{bit};
-ghost use Rattle.model.specs.Numbers.{member};
+ghost use Rattle.model.specs.Numbers.{member, HasJust};
 ghost use Rattle.model.specs.Arrows.{wider, reached, ring, arrow_into};
 ghost use Rattle.arrows.specs.Between.{between};
 
@@ -11,7 +11,7 @@ use words::with;
 impl Arrows {
     // The places of `seen`, and those to which an arrow goes from one of them.
     fn widen(&self, seen: u32) -> u32
-        ensures { (ps : List ℕ) → ((q : ℕ) → bit seen q ≡ member q ps) → (q : ℕ) → bit result q ≡ member q (wider (between self.now) ps) }
+        ensures { (ps : List ℕ) → HasJust seen ps → (q : ℕ) → bit result q ≡ member q (wider (between self.now) ps) }
     {
         let mut next = seen;
         for (place, sources) in self.into.iter().enumerate() {

@@ -2,7 +2,7 @@
 ghost use Rattle.std.specs.Prelude.{◌≡◌, ◌+◌, ◌<◌, ◌≤◌, not, ◌&&◌, [], ◌++◌, map, length, if◌then◌else◌, vec_len, vec_capacity, nat_lt};
 ghost use Rattle.words.specs.Words.{bit};
 ghost use Rattle.tree.specs.Lists.{keep};
-ghost use Rattle.book.specs.Rows.{row_of, held_of, rows_for};
+ghost use Rattle.book.specs.Rows.{row_of, held_of, has_room, rows_for};
 
 use crate::book::Book;
 use crate::lock::{Claim, LockRow};
@@ -24,9 +24,9 @@ fn append(rows: &mut Vec<LockRow>, claim: Claim)
 }
 
 impl Book {
-    // The ticket takes all the locks of its claim; none where its place is none or there are fewer free rows.
+    // The ticket takes all the locks of its claim; none where its place is 32 or more, or there are fewer free rows.
     pub fn grant(&mut self, claim: Claim)
-        ensures { held_of self.new ≡ held_of self.old ++ (if nat_lt claim.entry.place 32 && not (nat_lt 256 (length (held_of self.old) + length claim.entry.locks.now)) then rows_for claim.entry.place claim.entry.locks.now else []) }
+        ensures { held_of self.new ≡ held_of self.old ++ (if nat_lt claim.entry.place 32 && has_room self.old (length claim.entry.locks.now) then rows_for claim.entry.place claim.entry.locks.now else []) }
     {
         if claim.place < 32 && self.has_room(claim.locks.len()) {
             append(&mut self.rows, claim);

@@ -1,6 +1,6 @@
 // Making and reading a lock book.
 ghost use Rattle.std.specs.Prelude.{◌≡◌, ◌+◌, ◌≤◌, not, [], map, length, IfOk, nat_lt};
-ghost use Rattle.book.specs.Rows.{row_of, held_of};
+ghost use Rattle.book.specs.Rows.{row_of, held_of, has_room};
 
 use crate::book::Book;
 use crate::lock::LockRow;
@@ -26,7 +26,7 @@ impl Book {
 
     // Whether so many rows are free.
     pub fn has_room(&self, count: usize) -> bool
-        ensures { result ≡ not (nat_lt 256 (length (held_of self.now) + count)) }
+        ensures { result ≡ has_room self.now count }
     {
         count <= MOST - self.len()
     }

@@ -3,7 +3,7 @@ ghost use Rattle.std.specs.Prelude.{◌≡◌, ◌+◌, ◌<◌, ◌≤◌, [], 
 ghost use Rattle.std.specs.Int.NonZero.{non_zero_u32_get};
 ghost use Rattle.model.specs.Scheduler.{place_of, free_place};
 ghost use Rattle.model.specs.Refusals.{first_row, ticket_rows, open_rows, finish_rows, book_row};
-ghost use Rattle.book.specs.Rows.{held_of};
+ghost use Rattle.book.specs.Rows.{HasRoom};
 ghost use Rattle.desk.specs.States.{OverAnyStore, refusal};
 
 use crate::desk::Desk;
@@ -34,7 +34,7 @@ impl Desk {
         if !self.fit {
             return Err(Reason::Unfit);
         }
-        let place = self.seats.place_of(0).ok_or(Reason::Crowded)?;
+        let place = self.seats.free_place().ok_or(Reason::Crowded)?;
         let ticket = self.next.ok_or(Reason::Spent)?;
         Ok((place, ticket))
     }
@@ -54,7 +54,7 @@ impl Desk {
     // Whether the lock book has so many free rows.
     pub fn has_rows(&self, count: usize) -> Result<(), Reason>
         ensures rows { OverAnyStore self.now (λ m. first_row (book_row m count ∷ []) ≡ refusal result) }
-        ensures room { OnOk result (length (held_of self.now.book) + count ≤ 256) }
+        ensures room { OnOk result (HasRoom self.now.book count) }
     {
         if self.book.has_room(count) {
             Ok(())

@@ -50,6 +50,13 @@ impl Seats {
         (place < 32).then_some(place)
     }
 
+    // The lowest free place.
+    pub fn free_place(&self) -> Option<usize>
+        ensures { let place = lowest (λ i. nat_eq (ticket_at self.now i) 0) in MatchOption result (place ≡ 32) (λ p. (p ≡ place) × (p < 32)) }
+    {
+        self.place_of(0)
+    }
+
     // The places that are not free.
     pub fn taken(&self) -> u32
         ensures { (i : ℕ) → bit result i ≡ not (ticket_at self.now i == 0) }

@@ -2,28 +2,15 @@
 ghost use Rattle.std.specs.Prelude.{◌≡◌, suc, true, length};
 ghost use Rattle.name.specs.Names.{bytes_of};
 ghost use Rattle.path.specs.Pieces.{piece};
-ghost use Rattle.trial.specs.Labels.{excess, read_label, read_labels, seen_label, seen_labels, AcceptsLabels};
+ghost use Rattle.trial.specs.Labels.{read_label, read_labels, seen_label, seen_labels, AcceptsLabels};
 
 use crate::labels::Labels;
-use byte_classes::classes::{Class, Classes};
-use name::fault::{NameCause, NameFault};
+use byte_classes::classes::Classes;
 use name::name::{Name, Part};
 use path::fault::PathFault;
+use path::read::surplus;
 
 const MOST: usize = 16;
-
-// The fault of a label that begins with a byte that may not begin one, or of one label too many.
-fn excess(classes: &Classes, byte: u8, at: usize) -> PathFault
-    ensures { result ≡ excess classes.now at byte }
-{
-    match classes.class_of(byte) {
-        Class::Begins => PathFault::Many(at),
-        Class::Follows | Class::Outside => PathFault::Name(NameFault {
-            cause: NameCause::Byte,
-            at,
-        }),
-    }
-}
 
 // Reads the label that the part begins with, behind `count` others; beside it, where the label ends.
 fn read_label(classes: &Classes, count: usize, part: Part) -> Result<(Name, usize), PathFault>
@@ -34,7 +21,7 @@ fn read_label(classes: &Classes, count: usize, part: Part) -> Result<(Name, usiz
         return Err(PathFault::Empty(part.at));
     }
     if count >= MOST {
-        return Err(excess(classes, part.text[part.at], part.at));
+        return Err(surplus(classes, part.text[part.at], part.at));
     }
     let name = Name::read(
         classes,
@@ -54,7 +41,7 @@ pub fn read_labels(classes: &Classes, part: Part) -> Result<Labels, PathFault>
     let (first, end) = read_label(classes, 0, part)?;
     let mut labels = Labels::one(first);
     let mut at = end;
-    // A fault leaves the loop from inside, with its place.
+    // By rule the loop is left from inside, with the fault and its place.
     loop {
         if at >= part.text.len() {
             break Ok(labels);

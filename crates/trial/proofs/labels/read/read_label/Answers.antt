@@ -13,7 +13,7 @@ bounds-part-part c = begins_within c.args.classes.now c.args.part.text.now c.arg
 pub returns-then-count-ge-MOST : goal.returns-then-count-ge-MOST
 returns-then-count-ge-MOST c =
     let fault : PathFault → Next = λ f. Err f in
-    ap fault c.excess.ensures ∙ one_too_many c.args.classes.now c.args.part.text.now c.args.part.at (omega (arith, c.end_before-end.ensures)) c.args.count c.if-count-ge-MOST.true
+    ap fault c.surplus.ensures ∙ one_too_many c.args.classes.now c.args.part.text.now c.args.part.at (omega (arith, c.end_before-end.ensures)) c.args.count c.if-count-ge-MOST.true
 
 pub slice_bounds-read-end : goal.slice_bounds-read-end
 slice_bounds-read-end c =
