@@ -2,6 +2,7 @@
 use desk::desk::Desk;
 use std::marker::Model;
 use tree::Store;
+use walks::hits::Hits;
 
 pub mod judging;
 pub mod make;
@@ -12,6 +13,8 @@ pub mod writes;
 pub struct Scheduler<S: Store> {
     store: S,
     desk: Desk,
+    // Memory for what an ask finds; what it holds between two calls has no meaning.
+    hits: Hits,
 }
 
 // Contracts see the parts: a value is data, and the state that they give has functions.
