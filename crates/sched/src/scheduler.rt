@@ -4,6 +4,7 @@ use std::marker::Model;
 use tree::Store;
 use walks::hits::Hits;
 
+pub mod asks;
 pub mod judging;
 pub mod make;
 pub mod tickets;
