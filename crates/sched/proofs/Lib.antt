@@ -2,3 +2,5 @@ pub mod Reaching
 pub mod Words
 pub mod Acting
 pub mod Growing
+pub mod Asking
+pub mod Lending

@@ -2,7 +2,9 @@
 use desk::desk::Desk;
 use std::marker::Model;
 use tree::Store;
+use walks::hits::Hits;
 
+pub mod asks;
 pub mod judging;
 pub mod make;
 pub mod parts;
@@ -13,6 +15,8 @@ pub mod writes;
 pub struct Scheduler<S: Store> {
     store: S,
     desk: Desk,
+    // Memory for what an ask finds; what it holds between two calls has no meaning.
+    hits: Hits,
 }
 
 // The view is the parts and not the model's state, which holds functions: their equality cannot be decided.

@@ -9,6 +9,7 @@ use desk::desk::Desk;
 use std::alloc::{AllocError, Global};
 use tree::Store;
 use walks::choice::fit_for;
+use walks::hits::Hits;
 
 impl<S: Store + Drop> Scheduler<S> {
     // Over any store: where it cannot begin with it, the scheduler is unfit and refuses every call. All memory is reserved here.
@@ -18,6 +19,7 @@ impl<S: Store + Drop> Scheduler<S> {
     {
         let fit = fit_for(&store, first);
         let desk = Desk::new(heap, first, fit)?;
-        Ok(Scheduler { store, desk })
+        let hits = Hits::new(heap)?;
+        Ok(Scheduler { store, desk, hits })
     }
 }
