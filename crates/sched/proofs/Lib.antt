@@ -2,3 +2,4 @@ pub mod Reaching
 pub mod Words
 pub mod Acting
 pub mod Growing
+pub mod Lent

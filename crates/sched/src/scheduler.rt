@@ -5,6 +5,7 @@ use tree::Store;
 use walks::hits::Hits;
 
 pub mod judging;
+pub mod lists;
 pub mod make;
 pub mod tickets;
 pub mod writes;
