@@ -3,4 +3,4 @@ pub mod Words
 pub mod Acting
 pub mod Growing
 pub mod Asking
-pub mod Lending
+pub mod Lent

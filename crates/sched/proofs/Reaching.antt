@@ -2,6 +2,7 @@
 use Rattle.std.proofs.Common.{◌≡◌, ℕ, suc, ◌+◌, ◌≤◌, Bool, true, false, cond, not, eqb, ltb, List, [], ◌∷◌, ◌++◌, map, length, None, sym, refl, ap, ◌∙◌, subst, ⊎_elim, arith}
 use mathlib.Core.Bool.{Bool-set}
 use mathlib.Core.Logic.{∥∥₁_map, ∥∥₁_elim}
+use Rattle.std.proofs.Math.Nat.{ℕ_set}
 use Rattle.std.proofs.lemmas.Bool.{cases_Bool}
 use Rattle.std.specs.Coded.{Π_prop, le_prop}
 use Rattle.tree.specs.declared.record.Record.{Record}
@@ -68,6 +69,10 @@ few_added m t he e =
     let most = he.most in
     omega arith
 
+-- no ticket sits at two places
+pub at_one_place : (m : Model) → ∥ Reached m ∥₁ → m.fit ≡ true → (i j : ℕ) → m.tickets i ≡ m.tickets j → ¬ (m.tickets i ≡ 0) → i ≡ j
+at_one_place m go fit i j same taken = from_health go fit (ℕ_set i j) (λ he. he.place_one i j same taken)
+
 -- two proofs that a choice goes downward are one
 downward_once : (f : Record → Bool) (rs : List Record) → IsProp (Downward f rs)
 downward_once f rs = Π_prop (λ r. Π_prop (λ c. Π_prop (λ _. Π_prop (λ _. Π_prop (λ _. Π_prop (λ _. Bool-set (f c) true))))))
@@ -95,6 +100,9 @@ module _ (m : Model) (t : ℕ) (go : ∥ Reached m ∥₁) where
 
     after_withdraw : ∥ Reached (dropped m t).0 ∥₁
     after_withdraw = next_reached (withdraws room t) (dropped m t).1 (judged (withdraw_rows m room t) None m (dropped m t) rows) go
+
+    pub none_more_fits : m.done + 0 ≤ 4294967295
+    none_more_fits = let fits : m.done ≤ 4294967295 = from_health go withdraw_fit le_prop (λ he. he.done_fits) in omega arith
 
     pub made_downward : Downward (λ r. member (ticket_part r.name) (fallen m t)) m.records
     made_downward =

@@ -7,7 +7,7 @@ use path::query::Query;
 use path::step::Test;
 use sched::scheduler::Scheduler;
 use std::test::Fail;
-use tree::{ROOT, Store};
+use tree::{Made, ROOT, Store};
 
 // The first node that ticket 1 makes, with the label 2.
 const FIRST: u64 = 65_537;

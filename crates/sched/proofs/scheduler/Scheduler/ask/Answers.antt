@@ -20,7 +20,7 @@ use Rattle.sched.specs.Judging.{but_last}
 use Rattle.sched.proofs.Reaching.{next_reached}
 use Rattle.sched.proofs.Acting.{no_row}
 use Rattle.sched.proofs.Asking.{past_short, asked_at}
-use Rattle.sched.proofs.Lending.{lent}
+use Rattle.sched.proofs.Lent.{lent}
 use Rattle.sched.proofs.scheduler.Scheduler.ask.Given.{Over}
 use Rattle.sched.proofs.scheduler.Scheduler.ask.Goals.{After-write}
 use Rattle.sched.proofs.scheduler.Scheduler.ask.Goals as goal
