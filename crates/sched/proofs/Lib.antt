@@ -4,3 +4,4 @@ pub mod Acting
 pub mod Growing
 pub mod Asking
 pub mod Lending
+pub mod Lent

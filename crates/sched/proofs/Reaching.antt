@@ -2,6 +2,7 @@
 use Rattle.std.proofs.Common.{◌≡◌, ℕ, suc, ◌+◌, ◌≤◌, Bool, true, false, cond, not, eqb, ltb, List, [], ◌∷◌, ◌++◌, map, length, None, sym, refl, ap, ◌∙◌, subst, ⊎_elim, arith}
 use mathlib.Core.Bool.{Bool-set}
 use mathlib.Core.Logic.{∥∥₁_map, ∥∥₁_elim}
+use Rattle.std.proofs.Math.Nat.{ℕ_set}
 use Rattle.std.proofs.lemmas.Bool.{cases_Bool}
 use Rattle.std.specs.Coded.{Π_prop, le_prop}
 use Rattle.tree.specs.declared.record.Record.{Record}
@@ -66,6 +67,10 @@ few_added m t he e =
     let count = he.count in
     let most = he.most in
     omega arith
+
+-- no ticket sits at two places
+pub at_one_place : (m : Model) → ∥ Reached m ∥₁ → m.fit ≡ true → (i j : ℕ) → m.tickets i ≡ m.tickets j → ¬ (m.tickets i ≡ 0) → i ≡ j
+at_one_place m go fit i j same taken = from_health go fit (ℕ_set i j) (λ he. he.place_one i j same taken)
 
 -- two proofs that a choice goes downward are one
 downward_once : (f : Record → Bool) (rs : List Record) → IsProp (Downward f rs)

@@ -6,6 +6,7 @@ use walks::hits::Hits;
 
 pub mod asks;
 pub mod judging;
+pub mod lists;
 pub mod make;
 pub mod tickets;
 pub mod writes;
