@@ -100,6 +100,9 @@ module _ (m : Model) (t : ℕ) (go : ∥ Reached m ∥₁) where
     after_withdraw : ∥ Reached (dropped m t).0 ∥₁
     after_withdraw = next_reached (withdraws room t) (dropped m t).1 (judged (withdraw_rows m room t) None m (dropped m t) rows) go
 
+    pub none_more_fits : m.done + 0 ≤ 4294967295
+    none_more_fits = let fits : m.done ≤ 4294967295 = from_health go withdraw_fit le_prop (λ he. he.done_fits) in omega arith
+
     pub made_downward : Downward (λ r. member (ticket_part r.name) (fallen m t)) m.records
     made_downward =
         let f = λ (r : Record). member (ticket_part r.name) (fallen m t) in

@@ -1,13 +1,17 @@
 // The refusals that a desk can tell alone.
-ghost use Rattle.std.specs.Prelude.{◌≡◌, ◌+◌, ◌<◌, ◌≤◌, [], ◌∷◌, length, IfOk, OnOk};
+ghost use Rattle.std.specs.Prelude.{◌≡◌, ℕ, ◌+◌, ◌<◌, ◌≤◌, [], ◌∷◌, length, IfOk, OnOk};
 ghost use Rattle.std.specs.Int.NonZero.{non_zero_u32_get};
+ghost use Rattle.words.specs.Words.{bit};
+ghost use Rattle.model.specs.Numbers.{member};
 ghost use Rattle.model.specs.Scheduler.{place_of, free_place};
-ghost use Rattle.model.specs.Refusals.{first_row, ticket_rows, open_rows, finish_rows, book_row};
+ghost use Rattle.model.specs.Changes.{falling};
+ghost use Rattle.model.specs.Refusals.{first_row, ticket_rows, open_rows, finish_rows, withdraw_rows, book_row};
 ghost use Rattle.book.specs.Rows.{held_of};
 ghost use Rattle.desk.specs.States.{OverAnyStore, refusal};
 
 use crate::desk::Desk;
 use calls::reason::Reason;
+use seats::count::count;
 use std::num::NonZeroU32;
 
 impl Desk {
@@ -49,6 +53,19 @@ impl Desk {
             return Err(Reason::Later);
         }
         Ok(place)
+    }
+
+    // The places that a withdrawal of the ticket takes, where there is room for their tickets.
+    pub fn places_to_withdraw(&self, ticket: u32, room: usize) -> Result<u32, Reason>
+        ensures rows { OverAnyStore self.now (λ m. first_row (withdraw_rows m room ticket) ≡ refusal result) }
+        ensures places { IfOk result (λ w. OverAnyStore self.now (λ m. (i : ℕ) → bit w i ≡ member i (falling m ticket))) }
+    {
+        let place = self.place_of(ticket)?;
+        let places = self.arrows.reach(place);
+        if room < count(places) {
+            return Err(Reason::Short);
+        }
+        Ok(places)
     }
 
     // Whether the lock book has so many free rows.

@@ -1,21 +1,41 @@
 // The calls whose answer is a list of tickets, in a buffer that the caller lends.
 ghost use Rattle.std.specs.Prelude.{◌≡◌, length, IfOk};
-ghost use Rattle.model.specs.Scheduler.{orders, order};
+ghost use Rattle.model.specs.Scheduler.{withdraws, orders, order};
 ghost use Rattle.model.specs.Refusals.{first_row, order_rows};
 ghost use Rattle.model.specs.Calls.{step};
-ghost use Rattle.calls.specs.Answers.{Lent, order_answer};
+ghost use Rattle.calls.specs.Answers.{Lent, withdraw_answer, order_answer};
 ghost use Rattle.seats.specs.Listed.{listed};
 ghost use Rattle.desk.specs.States.{refusal};
 ghost use Rattle.sched.specs.Whole.{state_of};
 
 use crate::scheduler::Scheduler;
 use calls::reason::Reason;
+use drops::doomed::drop_made;
+use drops::forget::forget;
+use drops::unmark::unmark;
 use orders::order::order;
+use orders::rising::rising;
 use seats::tickets::Tickets;
 use tree::Store;
 use walks::fill::fill;
 
 impl<S: Store> Scheduler<S> {
+    // Undoes a transaction with all that arrows lead to from it, writes their tickets, rising, and answers how many they are.
+    pub fn withdraw(&mut self, ticket: u32, buffer: &mut [u32]) -> Result<usize, Reason>
+        ensures step { step (state_of self.old) (withdraws (length buffer.old) ticket) ≡ (state_of self.new, withdraw_answer result buffer.new) }
+        ensures lent { Lent result buffer.old buffer.new }
+    {
+        let places = self.desk.places_to_withdraw(ticket, buffer.len())?;
+        let fallen = rising(&self.desk.seats, places);
+        let tickets = fallen.as_slice();
+        drop_made(&mut self.store, tickets);
+        unmark(&mut self.store, tickets);
+        forget(&mut self.store, places);
+        self.desk.free(places, 0);
+        fill(tickets, buffer);
+        Ok(tickets.len())
+    }
+
     // The open tickets in the sequence in which they can finish, where there is room for so many.
     fn in_order(&self, room: usize) -> Result<Tickets, Reason>
         ensures rows { first_row (order_rows (state_of self.now) room) ≡ refusal result }
