@@ -5,3 +5,4 @@ pub mod Growing
 pub mod Asking
 pub mod Lending
 pub mod Lent
+pub mod Lawful

@@ -9,6 +9,7 @@ pub mod judging;
 pub mod lists;
 pub mod make;
 pub mod tickets;
+pub mod turn;
 pub mod writes;
 
 #[derive(Drop)]
