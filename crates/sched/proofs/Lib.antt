@@ -6,3 +6,4 @@ pub mod Asking
 pub mod Lending
 pub mod Lent
 pub mod Lawful
+pub mod Playing
