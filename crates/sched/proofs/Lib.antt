@@ -4,3 +4,5 @@ pub mod Acting
 pub mod Growing
 pub mod Asking
 pub mod Lent
+pub mod Lawful
+pub mod Playing

@@ -1,2 +1,4 @@
 pub mod Whole
 pub mod Judging
+pub mod Turns
+pub mod Runs

@@ -1,4 +1,5 @@
 // The scheduler of a station, over a store of any kind.
 #![tactic(auto)]
 
+pub mod run;
 pub mod scheduler;

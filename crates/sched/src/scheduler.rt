@@ -10,6 +10,7 @@ pub mod lists;
 pub mod make;
 pub mod parts;
 pub mod tickets;
+pub mod turn;
 pub mod writes;
 
 #[derive(Drop)]
