@@ -3,9 +3,9 @@
 --     turn_of u names tickets      the turn u
 --     answer_of a ns ts            the answer a, where the buffers hold ns and ts
 --     opened .. ordered            the answer of each call by itself
---     Lent r xs ys                 a buffer that held xs and holds ys has the r items of the answer at its start, and then what it
---                                  held; it is as it was where the call was refused
-use Rattle.std.specs.Prelude.{◌≡◌, ℕ, List, ◌++◌, take, drop, Ok, Err, Result}
+--     Leaves k xs ys               a buffer that held xs and holds ys has k items of an answer at its start, and then what it held
+--     Lent r xs ys                 the buffer of a call that was answered r: as it was where the call was refused
+use Rattle.std.specs.Prelude.{◌≡◌, ℕ, ◌≤◌, List, ◌++◌, length, take, drop, Ok, Err, Result}
 use Rattle.model.specs.Rules as model
 use Rattle.model.specs.Rules.{asks, adds, removes, found, made, removed, ticket, finished, withdrawn, ordered, refused}
 use Rattle.model.specs.Scheduler as scheduler
@@ -66,6 +66,9 @@ withdraw_answer r ts = by_call (λ k. withdrawn (take k ts)) r
 abbrev pub order_answer : Result ℕ Reason → List ℕ → model.Answer
 order_answer r ts = by_call (λ k. ordered (take k ts)) r
 
+abbrev pub Leaves : ℕ → List ℕ → List ℕ → Type 0
+Leaves k xs ys = (k ≤ length xs) × (ys ≡ take k ys ++ drop k xs)
+
 abbrev pub Lent : Result ℕ Reason → List ℕ → List ℕ → Type 0
-Lent (Ok k) xs ys = ys ≡ take k ys ++ drop k xs
+Lent (Ok k) xs ys = Leaves k xs ys
 Lent (Err e) xs ys = ys ≡ xs

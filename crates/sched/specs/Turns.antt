@@ -3,8 +3,7 @@
 --     Lawful m u a m'      in every history that leads to m, the turn u may follow with the answer a: it leads to m', and is agreed
 --     names_in a           how many names the answer a leaves in the buffer
 --     tickets_in a         how many tickets
---     Leaves k xs ys       a buffer that held xs and holds ys has k new items at its start, and then what it held
-use Rattle.std.specs.Prelude.{◌≡◌, ℕ, List, ◌∷◌, ◌++◌, take, drop}
+use Rattle.std.specs.Prelude.{ℕ, List, ◌∷◌}
 use Rattle.model.specs.Rules as model
 use Rattle.model.specs.Scheduler.{Model, Making, order}
 use Rattle.model.specs.History.{Turn, History, After}
@@ -40,6 +39,3 @@ tickets_in (Finished k) = 0
 tickets_in (Withdrawn k) = k
 tickets_in (Ordered k) = k
 tickets_in (Refused e) = 0
-
-abbrev pub Leaves : ℕ → List ℕ → List ℕ → Type 0
-Leaves k xs ys = ys ≡ take k ys ++ drop k xs

@@ -1,9 +1,9 @@
 // A whole list of turns, from the making of the scheduler on.
-ghost use Rattle.std.specs.Prelude.{◌≡◌, [], length, take, map, IfOk};
+ghost use Rattle.std.specs.Prelude.{◌≡◌, ◌≤◌, [], length, take, map, IfOk};
 ghost use Rattle.model.specs.History as history;
 ghost use Rattle.calls.specs.Answers.{answer_of};
 ghost use Rattle.sched.specs.Whole.{state_of, making};
-ghost use Rattle.sched.specs.Turns.{Agreed};
+ghost use Rattle.sched.specs.Turns.{Agreed, names_in, tickets_in};
 ghost use Rattle.sched.specs.Runs.{answer_in, turns_of, happened};
 
 use crate::scheduler::Scheduler;
@@ -35,10 +35,11 @@ pub struct Played<S: Store> {
 
 // The first of the items.
 fn front<T: Copy>(heap: Global, items: &[T], count: usize) -> Result<Vec<T>, AllocError>
+    requires { count ≤ length items.now }
     ensures { IfOk result (λ v. v.items ≡ take count items.now) }
 {
     let mut list = Vec::new(heap);
-    list.extend_from_slice(&items[..count.min(items.len())])?;
+    list.extend_from_slice(&items[..count])?;
     Ok(list)
 }
 
@@ -49,6 +50,8 @@ fn owned(
     names: &[u64],
     tickets: &[u32],
 ) -> Result<Outcome, AllocError>
+    requires names { names_in answer ≤ length names.now }
+    requires tickets { tickets_in answer ≤ length tickets.now }
     ensures { IfOk result (λ o. answer_in o ≡ answer_of answer names.now tickets.now) }
 {
     Ok(match answer {

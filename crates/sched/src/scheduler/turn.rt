@@ -1,9 +1,9 @@
 // The turns that kiosks take.
 ghost use Rattle.std.specs.Prelude.{◌≡◌, length};
 ghost use Rattle.model.specs.Calls.{step};
-ghost use Rattle.calls.specs.Answers.{call_of, turn_of, answer_of};
+ghost use Rattle.calls.specs.Answers.{call_of, turn_of, answer_of, Leaves};
 ghost use Rattle.sched.specs.Whole.{state_of};
-ghost use Rattle.sched.specs.Turns.{Lawful, names_in, tickets_in, Leaves};
+ghost use Rattle.sched.specs.Turns.{Lawful, names_in, tickets_in};
 
 use crate::scheduler::Scheduler;
 use calls::answer::Answer;

@@ -93,4 +93,4 @@ pub returns-clause-step : goal.returns-clause-step
 returns-clause-step g c = rw (← c.self.view_is) (asked_by g (goal.at.returns-clause-step g c).After-write)
 
 pub returns-clause-lent : goal.returns-clause-lent
-returns-clause-lent g c = (written g (goal.at.returns-clause-lent g c).After-write).1
+returns-clause-lent g c = (c.if-buffer-count.false, (written g (goal.at.returns-clause-lent g c).After-write).1)

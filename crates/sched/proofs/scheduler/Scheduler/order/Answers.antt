@@ -29,4 +29,7 @@ returns-clause-step g c =
     judged (order_rows m (length c.args.buffer.now)) None m (m, ordered (order m)) c.in_ok-tickets.ensures.rows ∙ (λ z. (m, ordered (written z)))
 
 pub returns-clause-lent : goal.returns-clause-lent
-returns-clause-lent g c = rw c.fill.ensures (rest_stays c.as_slice.result.now c.args.buffer.now c.len.result (counted g c) (room_for g c))
+returns-clause-lent g c =
+    let enough = room_for g c in
+    let count = counted g c in
+    (omega arith, rw c.fill.ensures (rest_stays c.as_slice.result.now c.args.buffer.now c.len.result count enough))

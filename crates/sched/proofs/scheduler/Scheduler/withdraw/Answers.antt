@@ -88,4 +88,5 @@ returns-clause-step g c =
 pub returns-clause-lent : goal.returns-clause-lent
 returns-clause-lent g c =
     let ts = c.as_slice-tickets.result.now in
-    rw c.fill.ensures (rest_stays ts c.args.buffer.now (length ts) refl (room_for g (goal.at.returns-clause-lent g c).After-free))
+    let enough = room_for g (goal.at.returns-clause-lent g c).After-free in
+    (enough, rw c.fill.ensures (rest_stays ts c.args.buffer.now (length ts) refl enough))
