@@ -1,7 +1,8 @@
 -- Calls and answers as the model has them. Lists stand in two buffers: of names, and of tickets. Assumes nothing.
 --     call_of c names tickets      the call c, where the buffers are so long
 --     turn_of u names tickets      the turn u
---     answer_of a ns ts            the answer a, where the buffers hold ns and ts
+--     answer_by f g a              the answer a, where f gives its list of names and g its list of tickets
+--     answer_of a ns ts            the counted answer a, where the buffers hold ns and ts
 --     opened .. ordered            the answer of each call by itself
 --     Leaves k xs ys               a buffer that held xs and holds ys has k items of an answer at its start, and then what it held
 --     Lent r xs ys                 the buffer of a call that was answered r: as it was where the call was refused
@@ -31,15 +32,18 @@ call_of Order names tickets = orders tickets
 abbrev pub turn_of : Turn → ℕ → ℕ → history.Turn
 turn_of u names tickets = record { kiosk = u.kiosk; call = call_of u.call names tickets }
 
-abbrev pub answer_of : Answer → List ℕ → List ℕ → model.Answer
-answer_of (answer.Ticket t) ns ts = ticket t
-answer_of (answer.Found k) ns ts = found (take k ns)
-answer_of (answer.Made n) ns ts = made n
-answer_of answer.Removed ns ts = removed
-answer_of (answer.Finished k) ns ts = finished k
-answer_of (answer.Withdrawn k) ns ts = withdrawn (take k ts)
-answer_of (answer.Ordered k) ns ts = ordered (take k ts)
-answer_of (answer.Refused e) ns ts = refused (number_of e)
+abbrev pub answer_by : {N T : Type 0} → (N → List ℕ) → (T → List ℕ) → Answer N T → model.Answer
+answer_by f g (answer.Ticket t) = ticket t
+answer_by f g (answer.Found ns) = found (f ns)
+answer_by f g (answer.Made n) = made n
+answer_by f g answer.Removed = removed
+answer_by f g (answer.Finished k) = finished k
+answer_by f g (answer.Withdrawn ts) = withdrawn (g ts)
+answer_by f g (answer.Ordered ts) = ordered (g ts)
+answer_by f g (answer.Refused e) = refused (number_of e)
+
+abbrev pub answer_of : Answer ℕ ℕ → List ℕ → List ℕ → model.Answer
+answer_of a ns ts = answer_by (λ k. take k ns) (λ k. take k ts) a
 
 abbrev pub by_call : {A : Type 0} → (A → model.Answer) → Result A Reason → model.Answer
 by_call f (Ok x) = f x

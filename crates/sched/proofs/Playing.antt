@@ -10,9 +10,8 @@ use Rattle.model.specs.History.{Turn, History, After, in_order, play, run}
 use Rattle.model.specs.Law.{Kept}
 use Rattle.model.proofs.Law.{agreement, play_after}
 use Rattle.model.proofs.Lists.{map_append, map_length, append_length}
-use Rattle.sched.specs.declared.run.Outcome.{Outcome}
 use Rattle.sched.specs.Turns.{Agreed}
-use Rattle.sched.specs.Runs.{answer_in, turns_of, happened}
+use Rattle.sched.specs.Runs.{Owned, answer_in, turns_of, happened}
 
 zip_none : {A B : Type 0} (us : List A) → zip {K = A} {X = B} us [] ≡ []
 zip_none [] = refl
@@ -46,7 +45,7 @@ one_more m₀ us xs m u a m' rest next e so_far =
     ∙ ((λ z. play (e z).0 rest ((u, (e z).1) ∷ happened us xs))
     ∙ ap (λ (h : History). play m' rest h) (sym (ap (λ (ps : List (Turn × Answer)). in_order ps) (zip_more us xs u a rest next) ∙ order_more (zip us xs) (u, a)))))
 
-pub turn_more : (m₀ m m' : Model) (us : List calls.Turn) (names tickets : ℕ) (os : List Outcome) (i : ℕ) (u : calls.Turn) (o : Outcome)
+pub turn_more : (m₀ m m' : Model) (us : List calls.Turn) (names tickets : ℕ) (os : List Owned) (i : ℕ) (u : calls.Turn) (o : Owned)
     → length os ≡ i → i < length us → u ≡ get_or us i u → step m (call_of u.call names tickets) ≡ (m', answer_in o)
     → Playing m₀ (turns_of us names tickets) (map answer_in os) m → Playing m₀ (turns_of us names tickets) (map answer_in (os ++ o ∷ [])) m'
 turn_more m₀ m m' us names tickets os i u o count lt at e so_far =

@@ -20,7 +20,7 @@ abbrev pub Lawful : Model → Turn → model.Answer → Model → Type 0
 Lawful m u a m' = (mk : Making) → Kept mk → (h : History) → After mk h m → Agreed mk ((u, a) ∷ h) m'
 
 -- ── buffers ──
-abbrev pub names_in : Answer → ℕ
+abbrev pub names_in : Answer ℕ ℕ → ℕ
 names_in (Ticket t) = 0
 names_in (Found k) = k
 names_in (Made n) = 0
@@ -30,7 +30,7 @@ names_in (Withdrawn k) = 0
 names_in (Ordered k) = 0
 names_in (Refused e) = 0
 
-abbrev pub tickets_in : Answer → ℕ
+abbrev pub tickets_in : Answer ℕ ℕ → ℕ
 tickets_in (Ticket t) = 0
 tickets_in (Found k) = 0
 tickets_in (Made n) = 0

@@ -7,24 +7,13 @@ ghost use Rattle.sched.specs.Turns.{Agreed, names_in, tickets_in};
 ghost use Rattle.sched.specs.Runs.{answer_in, turns_of, happened};
 
 use crate::scheduler::Scheduler;
-use calls::answer::Answer;
+use calls::answer::{Answer, Counted};
 use calls::call::Turn;
-use calls::reason::Reason;
 use std::alloc::{AllocError, Global};
 use tree::Store;
 
-// What a turn is answered, with its list.
-#[derive(PartialEq, Debug, Drop)]
-pub enum Outcome {
-    Ticket(u32),
-    Found(Vec<u64>),
-    Made(u64),
-    Removed,
-    Finished(u32),
-    Withdrawn(Vec<u32>),
-    Ordered(Vec<u32>),
-    Refused(Reason),
-}
+// The answer that holds its list.
+pub type Outcome = Answer<Vec<u64>, Vec<u32>>;
 
 // The outcomes of the turns, in their sequence, and the scheduler that is left.
 #[derive(Drop)]
@@ -46,7 +35,7 @@ fn front<T: Copy>(heap: Global, items: &[T], count: usize) -> Result<Vec<T>, All
 // The answer with its list, which stands at the start of the buffer of its kind.
 fn owned(
     heap: Global,
-    answer: Answer,
+    answer: Counted,
     names: &[u64],
     tickets: &[u32],
 ) -> Result<Outcome, AllocError>
@@ -55,14 +44,14 @@ fn owned(
     ensures { IfOk result (λ o. answer_in o ≡ answer_of answer names.now tickets.now) }
 {
     Ok(match answer {
-        Answer::Ticket(ticket) => Outcome::Ticket(ticket),
-        Answer::Found(count) => Outcome::Found(front(heap, names, count)?),
-        Answer::Made(name) => Outcome::Made(name),
-        Answer::Removed => Outcome::Removed,
-        Answer::Finished(place) => Outcome::Finished(place),
-        Answer::Withdrawn(count) => Outcome::Withdrawn(front(heap, tickets, count)?),
-        Answer::Ordered(count) => Outcome::Ordered(front(heap, tickets, count)?),
-        Answer::Refused(reason) => Outcome::Refused(reason),
+        Answer::Ticket(ticket) => Answer::Ticket(ticket),
+        Answer::Found(count) => Answer::Found(front(heap, names, count)?),
+        Answer::Made(name) => Answer::Made(name),
+        Answer::Removed => Answer::Removed,
+        Answer::Finished(place) => Answer::Finished(place),
+        Answer::Withdrawn(count) => Answer::Withdrawn(front(heap, tickets, count)?),
+        Answer::Ordered(count) => Answer::Ordered(front(heap, tickets, count)?),
+        Answer::Refused(reason) => Answer::Refused(reason),
     })
 }
 

@@ -6,12 +6,12 @@ ghost use Rattle.sched.specs.Whole.{state_of};
 ghost use Rattle.sched.specs.Turns.{Lawful, names_in, tickets_in};
 
 use crate::scheduler::Scheduler;
-use calls::answer::Answer;
+use calls::answer::{Answer, Counted};
 use calls::call::{Call, Turn};
 use tree::Store;
 
 impl<S: Store> Scheduler<S> {
-    fn answer(&mut self, call: Call, names: &mut [u64], tickets: &mut [u32]) -> Answer
+    fn answer(&mut self, call: Call, names: &mut [u64], tickets: &mut [u32]) -> Counted
         ensures step { step (state_of self.old) (call_of call (length names.old) (length tickets.old)) ≡ (state_of self.new, answer_of result names.new tickets.new) }
         ensures names { Leaves (names_in result) names.old names.new }
         ensures tickets { Leaves (tickets_in result) tickets.old tickets.new }
@@ -45,7 +45,7 @@ impl<S: Store> Scheduler<S> {
     }
 
     // A list that is answered stands at the start of the buffer of its kind.
-    pub fn turn(&mut self, turn: &Turn, names: &mut [u64], tickets: &mut [u32]) -> Answer
+    pub fn turn(&mut self, turn: &Turn, names: &mut [u64], tickets: &mut [u32]) -> Counted
         ensures step { step (state_of self.old) (call_of turn.now.call (length names.old) (length tickets.old)) ≡ (state_of self.new, answer_of result names.new tickets.new) }
         ensures law { Lawful (state_of self.old) (turn_of turn.now (length names.old) (length tickets.old)) (answer_of result names.new tickets.new) (state_of self.new) }
         ensures names { Leaves (names_in result) names.old names.new }

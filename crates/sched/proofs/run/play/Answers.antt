@@ -3,16 +3,15 @@ use Rattle.calls.specs.declared.call.Turn.{Turn}
 use Rattle.calls.specs.Answers.{call_of, turn_of}
 use Rattle.model.specs.Calls.{step}
 use Rattle.model.proofs.Lists.{map_length, append_length}
-use Rattle.sched.specs.declared.run.Outcome.{Outcome}
 use Rattle.sched.specs.Whole.{state_of}
-use Rattle.sched.specs.Runs.{answer_in, turns_of}
+use Rattle.sched.specs.Runs.{Owned, answer_in, turns_of}
 use Rattle.sched.proofs.Playing.{Playing, none_made, turn_more, all_made}
 use Rattle.sched.proofs.run.play.Goals as goal
 
 pub loop-turn-init : goal.loop-turn-init
 loop-turn-init g c =
     let none = c.new-outcomes.ensures.items in
-    record { each = ap (λ (os : List Outcome). length os) none; so_far = none_made _ _ _ (ap (λ (os : List Outcome). map answer_in os) none) }
+    record { each = ap (λ (os : List Owned). length os) none; so_far = none_made _ _ _ (ap (λ (os : List Owned). map answer_in os) none) }
 
 pub loop-turn-preserved : goal.loop-turn-preserved
 loop-turn-preserved g c =
@@ -27,8 +26,8 @@ loop-turn-preserved g c =
     (λ z. step (state_of before.scheduler) (call_of u.call (sym before.auto.names z) (sym before.auto.tickets z)))
     ∙ (c.turn-answer.ensures.step ∙ (λ z. (state_of c.turn-answer.new.self, sym own z))) in
     record {
-      each = (let a = ap (λ (os : List Outcome). length os) more in let b = append_length before.outcomes.items (o ∷ []) in let e = before.invariant.each in omega arith);
-      so_far = subst (λ (os : List Outcome). Playing (state_of c.args.scheduler.now) (turns_of c.args.turns.now n k) (map answer_in os) (state_of c.turn-answer.new.self)) (sym more)
+      each = (let a = ap (λ (os : List Owned). length os) more in let b = append_length before.outcomes.items (o ∷ []) in let e = before.invariant.each in omega arith);
+      so_far = subst (λ (os : List Owned). Playing (state_of c.args.scheduler.now) (turns_of c.args.turns.now n k) (map answer_in os) (state_of c.turn-answer.new.self)) (sym more)
           (turn_more (state_of c.args.scheduler.now) (state_of before.scheduler) (state_of c.turn-answer.new.self) c.args.turns.now n k before.outcomes.items before.turn-index u o
           before.invariant.each c.loop-turn-test.true c.turn-item.is answered before.invariant.so_far);
     }
