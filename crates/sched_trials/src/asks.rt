@@ -1,22 +1,15 @@
 // Asks: what is written, what a ticket then knows, and an arrow from a ticket whose lock an ask meets.
+use crate::making::children;
 use calls::reason::Reason;
 use linked::Linked;
 use listing::Listing;
-use path::coded::CodedPath;
 use path::query::Query;
-use path::step::Test;
 use sched::scheduler::Scheduler;
 use std::test::Fail;
 use tree::{Made, ROOT, Store};
 
 // The first node that ticket 1 makes, with the label 2.
 const FIRST: u64 = 65_537;
-
-// The children of the root with the label.
-fn children(label: u16) -> Option<Query> {
-    let path = CodedPath::one(Test::Name(label))?;
-    Some(Query { top: ROOT, path })
-}
 
 // Whether a scheduler over a store with a root answers as it must, where two tickets ask for its children with the label 2.
 fn answers<S: Store>(scheduler: &mut Scheduler<S>, query: &Query) -> bool {

@@ -1,5 +1,5 @@
 // A scheduler is made and opens, adds, removes and finishes; some calls are refused.
-use calls::reason::Reason;
+use crate::making::refusal;
 use linked::Linked;
 use listing::Listing;
 use sched::scheduler::Scheduler;
@@ -8,11 +8,6 @@ use tree::{Made, ROOT, Store};
 
 // The first node that ticket 1 makes.
 const FIRST: u64 = 65_537;
-
-// The number of the refusal, or none.
-fn refusal<T: Drop>(answer: Result<T, Reason>) -> Option<u8> {
-    answer.err().map(u8::from)
-}
 
 // Whether a scheduler over a store with a root answers the calls of ticket 1 as it must.
 fn answers<S: Store>(scheduler: &mut Scheduler<S>) -> bool {
