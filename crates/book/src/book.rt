@@ -6,7 +6,8 @@ use crate::lock::LockRow;
 pub mod change;
 pub mod read;
 
-// At most 256 rows, in the sequence the locks were taken. Memory for all of them is there from the making.
+// At most 256 rows, in the sequence the locks were taken. Memory for all of them is there from the making. The `Vec`
+// stands bare: a type around it would only repeat its methods.
 #[derive(Drop)]
 pub struct Book {
     rows: Vec<LockRow>,

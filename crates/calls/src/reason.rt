@@ -34,7 +34,7 @@ pub enum Reason {
     Spent,
 }
 
-// The number by which a refusal is answered.
+// The number by which a refusal is answered. Written out and no discriminants, so that one reason's wrong number can be planted.
 impl From<Reason> for u8 {
     ghost from_gives = { λ reason number. number ≡ number_of reason };
 

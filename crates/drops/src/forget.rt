@@ -1,7 +1,7 @@
 // Taking places out of the notes, when their tickets are gone.
 ghost use Rattle.std.specs.Prelude.{◌≡◌, ℕ, List, map, refl};
 ghost use Rattle.words.specs.Words.{bit};
-ghost use Rattle.tree.specs.Stores.{holding};
+ghost use Rattle.tree.specs.Stores.{each_changed};
 ghost use Rattle.model.specs.Numbers.{member, HasJust};
 ghost use Rattle.model.specs.Changes.{forgets};
 ghost use Rattle.drops.specs.Forgetting.{forgets_word};
@@ -29,8 +29,8 @@ impl Change for Forgetting {
 
 // The tickets at the places know no node any more.
 pub fn forget<S: Store>(store: &mut S, places: u32)
-    ensures after { S.Store.meaning store.new ≡ holding (S.Store.meaning store.old) (map (forgets_word places) (S.Store.meaning store.old).records) }
-    ensures listed { (ps : List ℕ) → HasJust places ps → S.Store.meaning store.new ≡ holding (S.Store.meaning store.old) (map (forgets ps) (S.Store.meaning store.old).records) }
+    ensures after { S.Store.meaning store.new ≡ each_changed (forgets_word places) (S.Store.meaning store.old) }
+    ensures listed { (ps : List ℕ) → HasJust places ps → S.Store.meaning store.new ≡ each_changed (forgets ps) (S.Store.meaning store.old) }
 {
     retag_all(store, &Forgetting { places });
 }

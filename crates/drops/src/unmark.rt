@@ -1,6 +1,6 @@
 // Making nodes live again whose removers are withdrawn.
 ghost use Rattle.std.specs.Prelude.{◌≡◌, map, if◌then◌else◌, refl};
-ghost use Rattle.tree.specs.Stores.{holding};
+ghost use Rattle.tree.specs.Stores.{each_changed};
 ghost use Rattle.model.specs.Numbers.{member};
 ghost use Rattle.model.specs.Changes.{with_mark};
 
@@ -38,7 +38,7 @@ impl<'a> Change for Unmarking<'a> {
 
 // What the tickets have marked is live again.
 pub fn unmark<S: Store>(store: &mut S, tickets: &[u32])
-    ensures after { S.Store.meaning store.new ≡ holding (S.Store.meaning store.old) (map (λ r. (if member r.mark tickets.now then with_mark r 0 else r)) (S.Store.meaning store.old).records) }
+    ensures after { S.Store.meaning store.new ≡ each_changed (λ r. (if member r.mark tickets.now then with_mark r 0 else r)) (S.Store.meaning store.old) }
 {
     retag_all(store, &Unmarking { tickets });
 }

@@ -37,7 +37,7 @@ pub fn begin<L: Eq>(path: &Path<L>, ending: Ending) -> u32
     }
 }
 
-// The places with one label more in front of those read so far.
+// The places with one label more in front of those read so far, of which no field of a struct could tell.
 pub fn back<L: Eq>(path: &Path<L>, places: u32, label: &L) -> u32
     ensures { (e : Ending) (ls : List L) → Reads L.eq e (steps_of path.now) ls places → Reads L.eq e (steps_of path.now) (label.now ∷ ls) result }
 {

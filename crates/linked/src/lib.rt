@@ -12,6 +12,8 @@ pub mod store;
 
 use tree::Record;
 
+// The `Vec` stands bare, and `count`, `limit`, `tag` and `discard` read as in the other store, over rows of another type: what both
+// could share would only repeat the `Vec`'s methods.
 #[derive(Drop)]
 pub struct Linked {
     rows: Vec<Record>,

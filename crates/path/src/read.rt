@@ -68,6 +68,7 @@ fn excess(classes: &Classes, part: Part) -> PathFault
     }
 }
 
+// The count belongs to the path that is built, and not to the part that is read.
 // Reads the step that follows `count` others; `deep` says that two slashes stand before it.
 fn read_behind(
     classes: &Classes,

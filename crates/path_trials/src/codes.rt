@@ -64,6 +64,7 @@ fn eight_steps_and_no_ninth(rt: HostRuntime) -> Result<(), Fail> {
         deep: true,
         test: Test::Star,
     };
+    // No index: seven steps more.
     for _ in 1..8u8 {
         assert_eq!(rt; path.push(star), Ok(()));
     }

@@ -35,6 +35,7 @@ pub trait Store: Sized {
     fn look(&self, name: u64) -> Option<Record>
         ensures answer { result ≡ look name (meaning self.now).records };
 
+    // The parameters of this call and the next are the parts of a record that it sets; no other function takes them together.
     // Adds a live record that no ticket knows.
     fn place(&mut self, name: u64, parent: u64, label: u16) -> Result<(), Refused>
         ensures answer { result ≡ place_answer (meaning self.old).most name parent label (meaning self.old).records }

@@ -1,3 +1,4 @@
+// By rule a walk asks for the next name until there is none.
 // The walk over all nodes of a store, in rising order: start with no name, and go on with each name that it gives, until there is none.
 ghost use Rattle.std.specs.Prelude.{◌≡◌};
 ghost use Rattle.tree.specs.Walk.{name_after};

@@ -1,4 +1,5 @@
-// Climbing from a node towards the root: whether the labels on the way fit a path.
+// Climbing from a node towards the root: whether the labels on the way fit a path. The store is what is worked on, and no part of a
+// query.
 ghost use Rattle.std.specs.Prelude.{◌≡◌, ℕ, true, List, if◌then◌else◌, None, nat_eq};
 ghost use Rattle.std.specs.Option.{option_map};
 ghost use Rattle.path.specs.CodedPaths.{code_steps};

@@ -1,6 +1,6 @@
 // Removing a node, and learning of nodes: changes of marks and notes.
 ghost use Rattle.std.specs.Prelude.{◌≡◌, map, if◌then◌else◌, nat_eq, refl};
-ghost use Rattle.tree.specs.Stores.{holding};
+ghost use Rattle.tree.specs.Stores.{each_changed};
 ghost use Rattle.model.specs.Numbers.{member};
 ghost use Rattle.model.specs.Changes.{with_mark};
 ghost use Rattle.walks.specs.Changes.{learns_at};
@@ -27,7 +27,7 @@ impl Change for Marking {
 
 // The ticket `ticket` removes the node.
 pub fn mark<S: Store>(store: &mut S, name: u64, ticket: u32)
-    ensures after { S.Store.meaning store.new ≡ holding (S.Store.meaning store.old) (map (λ r. (if nat_eq r.name name then with_mark r ticket else r)) (S.Store.meaning store.old).records) }
+    ensures after { S.Store.meaning store.new ≡ each_changed (λ r. (if nat_eq r.name name then with_mark r ticket else r)) (S.Store.meaning store.old) }
 {
     retag(store, &Marking { ticket }, name);
 }
@@ -50,7 +50,7 @@ impl Change for Learning {
 
 // The ticket at the place learns of the nodes; there is no place from 32 on.
 pub fn teach<S: Store>(store: &mut S, names: &[u64], place: usize)
-    ensures after { S.Store.meaning store.new ≡ holding (S.Store.meaning store.old) (map (λ r. (if member r.name names.now then learns_at place r else r)) (S.Store.meaning store.old).records) }
+    ensures after { S.Store.meaning store.new ≡ each_changed (λ r. (if member r.name names.now then learns_at place r else r)) (S.Store.meaning store.old) }
 {
     for name in names {
         retag(store, &Learning { place }, *name);

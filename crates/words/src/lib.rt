@@ -1,4 +1,5 @@
-// Sets of places from 0 to 31 as words: place k is in the set where bit k is set.
+// Sets of places from 0 to 31 as words: place k is in the set where bit k is set. A place is any number, as a narrower type would ask
+// more of callers; loops elsewhere put places in one by one, as a chain would need the same body.
 #![tactic(auto)]
 
 ghost use Rattle.std.specs.Prelude.{◌≡◌, ℕ, ◌<◌, not, ◌&&◌, ◌||◌, ◌==◌, nat_lt};

@@ -11,6 +11,7 @@ ghost use Rattle.desk.specs.States.{state, Rivals, forgotten};
 use crate::desk::Desk;
 use book::lock::Claim;
 
+// The clauses are over any records before and after: the store changes beside the desk.
 impl Desk {
     // The ticket takes the locks of its claim, where there is room for them, with arrows from its rivals.
     pub fn grant(&mut self, claim: Claim, rivals: u32)

@@ -1,11 +1,11 @@
 // The calls whose answer is a list of tickets, in a buffer that the caller lends.
 ghost use Rattle.std.specs.Prelude.{◌≡◌, length, IfOk};
 ghost use Rattle.model.specs.Scheduler.{withdraws, orders, order};
-ghost use Rattle.model.specs.Refusals.{first_row, order_rows};
+ghost use Rattle.model.specs.Refusals.{order_rows};
 ghost use Rattle.model.specs.Calls.{step};
 ghost use Rattle.calls.specs.Answers.{Lent, withdraw_answer, order_answer};
 ghost use Rattle.seats.specs.Listed.{listed};
-ghost use Rattle.desk.specs.States.{refusal};
+ghost use Rattle.desk.specs.States.{Judges};
 ghost use Rattle.sched.specs.Whole.{state_of};
 
 use crate::scheduler::Scheduler;
@@ -38,7 +38,7 @@ impl<S: Store> Scheduler<S> {
 
     // The open tickets in the sequence in which they can finish, where there is room for so many.
     fn in_order(&self, room: usize) -> Result<Tickets, Reason>
-        ensures rows { first_row (order_rows (state_of self.now) room) ≡ refusal result }
+        ensures rows { Judges (order_rows (state_of self.now) room) result }
         ensures order { IfOk result (λ t. listed t ≡ order (state_of self.now)) }
     {
         if !self.desk.fit {

@@ -44,7 +44,7 @@ impl<S: Store> Scheduler<S> {
         }
     }
 
-    // A list that is answered stands at the start of the buffer of its kind.
+    // A list that is answered stands at the start of the buffer of its kind; by rule each is a slice that the caller lends.
     pub fn turn(&mut self, turn: &Turn, names: &mut [u64], tickets: &mut [u32]) -> Counted
         ensures step { step (state_of self.old) (call_of turn.now.call (length names.old) (length tickets.old)) ≡ (state_of self.new, answer_of result names.new tickets.new) }
         ensures law { Lawful (state_of self.old) (turn_of turn.now (length names.old) (length tickets.old)) (answer_of result names.new tickets.new) (state_of self.new) }

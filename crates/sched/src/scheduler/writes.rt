@@ -3,10 +3,10 @@ ghost use Rattle.std.specs.Prelude.{◌≡◌, ℕ, IfOk, Some};
 ghost use Rattle.tree.specs.Records.{look};
 ghost use Rattle.model.specs.Rules.{adds, removes};
 ghost use Rattle.model.specs.Scheduler.{acts};
-ghost use Rattle.model.specs.Refusals.{first_row, add_rows, remove_rows};
+ghost use Rattle.model.specs.Refusals.{add_rows, remove_rows};
 ghost use Rattle.model.specs.Calls.{step};
 ghost use Rattle.calls.specs.Answers.{add_answer, remove_answer};
-ghost use Rattle.desk.specs.States.{refusal};
+ghost use Rattle.desk.specs.States.{Judges};
 ghost use Rattle.sched.specs.Whole.{state_of};
 ghost use Rattle.sched.specs.Judging.{but_last, At};
 
@@ -17,10 +17,11 @@ use tree::{ROOT, Record, Store, node_name};
 use walks::choice::has_live_child;
 use walks::tags::{mark, teach};
 
+// A ticket and a node are what the rules name for an action; a struct would be made only to be taken apart.
 impl<S: Store> Scheduler<S> {
     // The place of the ticket, where all but a ring allows the add.
     fn may_add(&self, ticket: u32, node: u64, label: u16) -> Result<usize, Reason>
-        ensures rows { first_row (but_last (add_rows (state_of self.now) ticket node label)) ≡ refusal result }
+        ensures rows { Judges (but_last (add_rows (state_of self.now) ticket node label)) result }
         ensures place { IfOk result (At (state_of self.now) ticket) }
     {
         let (place, _) = self.begins(ticket, node)?;
@@ -57,7 +58,7 @@ impl<S: Store> Scheduler<S> {
 
     // The place of the ticket and the record of the node, where all but a ring allows the remove.
     fn may_remove(&self, ticket: u32, node: u64) -> Result<(usize, Record), Reason>
-        ensures rows { first_row (but_last (remove_rows (state_of self.now) ticket node)) ≡ refusal result }
+        ensures rows { Judges (but_last (remove_rows (state_of self.now) ticket node)) result }
         ensures place { IfOk result (λ v. At (state_of self.now) ticket v.0) }
         ensures node { IfOk result (λ v. look node self.now.store.records ≡ Some v.1) }
     {
