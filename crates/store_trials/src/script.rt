@@ -1,4 +1,4 @@
-// One script for every store of limit 8, with all that it is answered.
+// One script for every store of limit 8, with all that it is answered. Two lists: the answers of both stores are compared as wholes.
 use crate::ops::{Answer, Op, answers};
 use linked::Linked;
 use listing::Listing;
