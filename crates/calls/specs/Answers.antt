@@ -3,7 +3,7 @@
 --     turn_of u names tickets      the turn u
 --     answer_by f g a              the answer a, where f gives its list of names and g its list of tickets
 --     answer_of a ns ts            the counted answer a, where the buffers hold ns and ts
---     opened .. ordered            the answer of each call by itself
+--     open_answer .. order_answer  the answer of each call by itself
 --     Leaves k xs ys               a buffer that held xs and holds ys has k items of an answer at its start, and then what it held
 --     Lent r xs ys                 the buffer of a call that was answered r: as it was where the call was refused
 use Rattle.std.specs.Prelude.{◌≡◌, ℕ, ◌≤◌, List, ◌++◌, length, take, drop, Ok, Err, Result}

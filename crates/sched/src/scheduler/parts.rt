@@ -1,5 +1,6 @@
-// The parts of a scheduler, to be read.
+// The parts of a scheduler, to be read, and what its type keeps of them.
 ghost use Rattle.std.specs.Prelude.{◌≡◌};
+ghost use Rattle.sched.specs.Whole.{state_of, Reached};
 
 use crate::scheduler::Scheduler;
 use desk::desk::Desk;
@@ -16,5 +17,13 @@ impl<S: Store> Scheduler<S> {
         ensures { result.now ≡ self.now.desk }
     {
         &self.desk
+    }
+
+    // Some history of calls led to this state: so what `turn` promises of every such history is promised of one at least.
+    pub fn has_history(&self)
+        ensures { ∥ Reached (state_of self.now) ∥₁ }
+    {
+        // The use of a field lets the proof see what the type keeps.
+        let _ = &self.desk;
     }
 }
