@@ -96,7 +96,7 @@ module _ {L : Type 0} (same : L → L → Bool) where
     fits_complete Closed ss ls h = fitting ss ls h
     fits_complete Open ss ls (last, h) = some_last ss ls last (fitting ss (ls ++ last ∷ []) h)
 
-    fits_exactly : (e : Ending) (ss : List (Step L)) (ls : List L) → Says (verdict (fits same e ss ls)) (FitsPath Same e ss ls)
+    pub fits_exactly : (e : Ending) (ss : List (Step L)) (ls : List L) → Says (verdict (fits same e ss ls)) (FitsPath Same e ss ls)
     fits_exactly e ss ls = says (fits same e ss ls) (fits_sound e ss ls) (fits_complete e ss ls)
       where
         says : {P : Type 0} (b : Bool) → (b ≡ true → P) → (P → b ≡ true) → Says (verdict b) P

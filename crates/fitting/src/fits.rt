@@ -6,13 +6,14 @@ ghost use Rattle.fitting.specs.Language.{FitsPath, Says};
 
 use crate::backward::{back, begin};
 use crate::fit::{Ending, Fit};
+use crate::label::Label;
 use path::path::Path;
 use words::has;
 
 // Whether the label path fits: at most one test for each label and step, and none once nothing in front can help.
-pub fn fits<L: Eq>(labels: &[L], ending: Ending, path: &Path<L>) -> Fit
-    ensures answer { result ≡ verdict (fits L.eq ending (steps_of path.now) labels.now) }
-    ensures means { (some : L) → Says result (FitsPath (λ x y. L.eq x y ≡ true) ending (steps_of path.now) labels.now) }
+pub fn fits<L: Label>(labels: &[L], ending: Ending, path: &Path<L>) -> Fit
+    ensures answer { result ≡ verdict (fits L.Label.same ending (steps_of path.now) labels.now) }
+    ensures means { (some : L) → Says result (FitsPath (λ x y. L.Label.same x y ≡ true) ending (steps_of path.now) labels.now) }
 {
     let mut places = begin(path, ending);
     for label in labels.iter().rev() {

@@ -5,4 +5,5 @@ pub mod backward;
 pub mod codes;
 pub mod fit;
 pub mod fits;
+pub mod label;
 pub mod shows;

@@ -17,7 +17,7 @@ loop-k-preserved g c j d =
     let k = c.loop-k.k in
     let w = c.args.places in
     let ss = c.steps-step-items.result.now in
-    let T : ℕ → Bool = λ j. takes g.L.PartialEq.eq (get_or ss j d) c.args.label.now (bit w (j + 1)) (bit w j) in
+    let T : ℕ → Bool = λ j. takes g.L.Label.same (get_or ss j d) c.args.label.now (bit w (j + 1)) (bit w j) in
     let here : c.step-item.result ≡ get_or ss k d = c.step-item.is ∙ get_or_default ss k c.step-item.result d c.loop-k-test.true in
     let onward = c.has.ensures in
     let stays = c.has-in-loop-k.ensures in
@@ -39,4 +39,4 @@ returns g c e ls h =
     let all : c.loop-k.k ≡ length c.steps-step-items.result.now = omega arith in
     let steps = c.steps-step-items.ensures in
     let d : Step _ = record { deep = false; test = Star } in
-    goes_back g.L.PartialEq.eq e (steps_of c.args.path.now) ls c.args.label.now c.args.places c.loop-k.next d h (λ k. let kept = c.loop-k.invariant k d in cc)
+    goes_back g.L.Label.same e (steps_of c.args.path.now) ls c.args.label.now c.args.places c.loop-k.next d h (λ k. let kept = c.loop-k.invariant k d in cc)

@@ -26,7 +26,7 @@ loop-label-preserved g c =
 
 pub returns-then-places-eq0 : goal.returns-then-places-eq0
 returns-then-places-eq0 g c =
-    let same = g.L.PartialEq.eq in
+    let same = g.L.Label.same in
     let ss = steps_of c.args.path.now in
     let e = c.args.ending in
     let (behind, split, read) = c.loop-label.invariant in
@@ -36,11 +36,11 @@ returns-then-places-eq0 g c =
     let lost : Reads same e ss (x ∷ behind) 0 = subst (Reads same e ss (x ∷ behind)) c.if-places-eq0.true (c.back-places.ensures e behind (read e c.begin-places.ensures)) in
     let never = nowhere_more same e ss (x ∷ behind) left (none_nowhere same e ss (x ∷ behind) lost) in
     let answer = sym (ap verdict (ap (fits same e ss) all ∙ never)) in
-    record { answer = answer; means = λ some. means_it same g.met.L.Eq.laws.refl some e ss c.args.labels.now _ answer }
+    record { answer = answer; means = λ some. means_it same g.met.L.Label.reflexive some e ss c.args.labels.now _ answer }
 
 pub returns : goal.returns
 returns g c =
-    let same = g.L.PartialEq.eq in
+    let same = g.L.Label.same in
     let ss = steps_of c.args.path.now in
     let e = c.args.ending in
     let (behind, split, read) = c.loop-label.invariant in
@@ -50,4 +50,4 @@ returns g c =
     let first = c.has.ensures in
     let told = c.from.ensures in
     let answer : c.from.result ≡ verdict (fits same e ss c.args.labels.now) = cc in
-    record { answer = answer; means = λ some. means_it same g.met.L.Eq.laws.refl some e ss c.args.labels.now c.from.result answer }
+    record { answer = answer; means = λ some. means_it same g.met.L.Label.reflexive some e ss c.args.labels.now c.from.result answer }

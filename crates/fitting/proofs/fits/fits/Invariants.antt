@@ -11,4 +11,4 @@ abbrev pub invariant-loop-label : goal.invariant-loop-label
 invariant-loop-label g l =
     (behind : List _)
     × (l.labels ≡ iter_rest (rev_source l.label-iterator) ++ behind)
-    × ((e : Ending) → Reads g.L.PartialEq.eq e (steps_of l.path) [] l.initial.places → Reads g.L.PartialEq.eq e (steps_of l.path) behind l.places)
+    × ((e : Ending) → Reads g.L.Label.same e (steps_of l.path) [] l.initial.places → Reads g.L.Label.same e (steps_of l.path) behind l.places)
