@@ -1,5 +1,5 @@
 -- What a buffer holds after a list was written to its start.
-use Rattle.std.proofs.Common.{◌≡◌, ℕ, zero, suc, ◌≤◌, min, List, [], ◌∷◌, ◌++◌, length, take, drop, sym, refl, ap, ◌∙◌, arith, take_all}
+use Rattle.std.proofs.Common.{◌≡◌, ℕ, zero, suc, ◌≤◌, min, List, [], ◌∷◌, ◌++◌, length, set, take, drop, sym, refl, ap, ◌∙◌, arith, take_all}
 use Rattle.walks.specs.Buffers.{filled}
 
 module _ {A : Type 0} where
@@ -15,3 +15,10 @@ module _ {A : Type 0} where
   -- where there is room for all items
   pub filled_fits : (ns xs : List A) → length ns ≤ length xs → filled ns xs ≡ ns ++ drop (length ns) xs
   filled_fits ns xs le = sym (filled_front ns xs (length ns) (omega arith)) ∙ ap (λ (ys : List A). ys ++ drop (length ns) xs) (take_all (length ns) ns (omega arith))
+
+  -- one item more
+  pub filled_more : (ns xs : List A) (n : A) → set (filled ns xs) (length ns) n ≡ filled (ns ++ (n ∷ [])) xs
+  filled_more [] [] n = refl
+  filled_more [] (x ∷ xs) n = refl
+  filled_more (m ∷ ns) [] n = refl
+  filled_more (m ∷ ns) (x ∷ xs) n = ap (λ (ys : List A). m ∷ ys) (filled_more ns xs n)

@@ -5,5 +5,6 @@ pub mod change;
 pub mod choice;
 pub mod climb;
 pub mod fill;
+pub mod found;
 pub mod hits;
 pub mod tags;

@@ -1,0 +1,14 @@
+use Rattle.std.proofs.Common.{◌≡◌, length}
+use Rattle.tree.specs.Walk.{visited, ahead}
+use Rattle.walks.specs.Buffers.{filled}
+use Rattle.walks.proofs.Queries.{names_of, finds}
+use Rattle.walks.proofs.found.write_found.Given as goal
+
+abbrev pub invariant-loop-name : goal.invariant-loop-name
+invariant-loop-name g l =
+    let rs = (g.S.Store.meaning l.store).records in
+    (l.written ≡ length (names_of (finds rs l.query.top l.query.path) (visited l.last rs)))
+    × (l.buffer ≡ filled (names_of (finds rs l.query.top l.query.path) (visited l.last rs)) l.initial.buffer)
+
+abbrev pub decreases-loop-name : goal.decreases-loop-name
+decreases-loop-name g l = length (ahead l.last (g.S.Store.meaning l.store).records)
