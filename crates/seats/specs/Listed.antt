@@ -4,8 +4,8 @@
 --
 -- Assumes nothing.
 use Rattle.std.specs.Prelude.{ℕ, List}
-use Rattle.bounded.specs.declared.bounded.Bounded.{Bounded}
+use Rattle.seats.specs.declared.tickets.Tickets.{Tickets}
 use Rattle.bounded.specs.Items.{items_of}
 
-abbrev pub listed : Bounded ℕ 32 → List ℕ
-listed t = items_of t
+abbrev pub listed : Tickets → List ℕ
+listed t = items_of t.list

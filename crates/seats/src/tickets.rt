@@ -1,5 +1,10 @@
 // A list of tickets.
 use bounded::Bounded;
 
+pub mod row;
+
 // At most one ticket for each place.
-pub type Tickets = Bounded<u32, 32>;
+#[derive(Clone, Copy)]
+pub struct Tickets {
+    list: Bounded<u32, 32>,
+}
