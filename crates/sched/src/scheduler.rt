@@ -1,22 +1,19 @@
-// A store, and what is kept beside it: together a state that some history reaches.
-use desk::desk::Desk;
+// A station in a state that some history reaches, and memory for its asks.
+use crate::station::Station;
 use std::marker::Model;
 use tree::Store;
 use walks::hits::Hits;
 
 pub mod asks;
-pub mod judging;
 pub mod lists;
 pub mod make;
 pub mod parts;
-pub mod tickets;
+pub mod steps;
 pub mod turn;
-pub mod writes;
 
 #[derive(Drop)]
 pub struct Scheduler<S: Store> {
-    store: S,
-    desk: Desk,
+    station: Station<S>,
     // Memory for what an ask finds; what it holds between two calls has no meaning.
     hits: Hits,
 }
@@ -27,7 +24,7 @@ impl<S: Store> Model for Scheduler<S> {
 
     ghost Value = { Parts };
 
-    ghost view = { λ s. record { store = S.Store.meaning s.store; desk = s.desk } };
+    ghost view = { λ s. record { store = S.Store.meaning s.station.store; desk = s.station.desk } };
 
-    ghost invariant = { λ s. ∥ Reached (state_of (record { store = S.Store.meaning s.store; desk = s.desk })) ∥₁ };
+    ghost invariant = { λ s. ∥ Reached (state_of (record { store = S.Store.meaning s.station.store; desk = s.station.desk })) ∥₁ };
 }

@@ -20,20 +20,20 @@ impl<S: Store> Scheduler<S> {
         ensures lent { Lent result buffer.old buffer.new }
     {
         let (place, _) = self.begins(ticket, query.top)?;
-        self.hits.find(&self.store, query);
+        self.hits.find(&self.station.store, query);
         let count = self.hits.len();
         if buffer.len() < count {
             return Err(Reason::Short);
         }
-        self.desk.has_rows(1)?;
+        self.station.desk.has_rows(1)?;
         let locks = [Lock::Read(*query)];
         let claim = Claim {
             place,
             locks: &locks,
         };
         let rivals = self.rivals_of(claim)?;
-        teach(&mut self.store, self.hits.as_slice(), place);
-        self.desk.grant(claim, rivals);
+        teach(&mut self.station.store, self.hits.as_slice(), place);
+        self.station.desk.grant(claim, rivals);
         self.hits.write(buffer);
         Ok(count)
     }

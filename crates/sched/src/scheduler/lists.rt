@@ -25,13 +25,13 @@ impl<S: Store> Scheduler<S> {
         ensures step { step (state_of self.old) (withdraws (length buffer.old) ticket) ≡ (state_of self.new, withdraw_answer result buffer.new) }
         ensures lent { Lent result buffer.old buffer.new }
     {
-        let places = self.desk.places_to_withdraw(ticket, buffer.len())?;
-        let fallen = rising(&self.desk.seats, places);
+        let places = self.station.desk.places_to_withdraw(ticket, buffer.len())?;
+        let fallen = rising(&self.station.desk.seats, places);
         let tickets = fallen.as_slice();
-        drop_made(&mut self.store, tickets);
-        unmark(&mut self.store, tickets);
-        forget(&mut self.store, places);
-        self.desk.free(places, 0);
+        drop_made(&mut self.station.store, tickets);
+        unmark(&mut self.station.store, tickets);
+        forget(&mut self.station.store, places);
+        self.station.desk.free(places, 0);
         fill(tickets, buffer);
         Ok(tickets.len())
     }
@@ -41,10 +41,10 @@ impl<S: Store> Scheduler<S> {
         ensures rows { Judges (order_rows (state_of self.now) room) result }
         ensures order { IfOk result (λ t. listed t ≡ order (state_of self.now)) }
     {
-        if !self.desk.fit {
+        if !self.station.desk.fit {
             return Err(Reason::Unfit);
         }
-        let tickets = order(&self.desk.seats, &self.desk.arrows);
+        let tickets = order(&self.station.desk.seats, &self.station.desk.arrows);
         if room < tickets.len() {
             return Err(Reason::Short);
         }

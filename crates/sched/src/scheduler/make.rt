@@ -5,6 +5,7 @@ ghost use Rattle.model.specs.Law.{Kept};
 ghost use Rattle.sched.specs.Whole.{state_of, making};
 
 use crate::scheduler::Scheduler;
+use crate::station::Station;
 use desk::desk::Desk;
 use std::alloc::{AllocError, Global};
 use tree::Store;
@@ -20,6 +21,7 @@ impl<S: Store + Drop> Scheduler<S> {
         let fit = fit_for(&store, first);
         let desk = Desk::new(heap, first, fit)?;
         let hits = Hits::new(heap)?;
-        Ok(Scheduler { store, desk, hits })
+        let station = Station { store, desk };
+        Ok(Scheduler { station, hits })
     }
 }

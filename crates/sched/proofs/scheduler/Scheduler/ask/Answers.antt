@@ -27,7 +27,7 @@ use Rattle.sched.proofs.scheduler.Scheduler.ask.Goals as goal
 
 pub returns-in_err-has_rows-clause-step : goal.returns-in_err-has_rows-clause-step
 returns-in_err-has_rows-clause-step g c =
-    let s = c.self.inside in
+    let s = c.self.inside.station in
     let m = state (g.S.Store.meaning s.store).records (g.S.Store.meaning s.store).most s.desk in
     let t = c.args.ticket in
     let q = c.args.query.now in
@@ -41,7 +41,7 @@ returns-in_err-has_rows-clause-step g c =
 
 -- what the buffer holds is what the query answers, and then what it held
 written : (g : Over) (c : After-write g) →
-    let s = c.self.inside in
+    let s = c.self.inside.station in
     let q = c.args.query.now in
     let k = c.len-count.result in
     let names = query (actual (g.S.Store.meaning s.store).records) q.top q.path in
@@ -49,17 +49,17 @@ written : (g : Over) (c : After-write g) →
 written g c =
     let q = c.args.query.now in
     let k = c.len-count.result in
-    let names = query (actual (g.S.Store.meaning c.self.inside.store).records) q.top q.path in
+    let names = query (actual (g.S.Store.meaning c.self.inside.station.store).records) q.top q.path in
     let count : k ≡ length names = c.len-count.ensures ∙ ap length c.find.ensures in
     lent names c.args.buffer.now c.write.new.buffer k count c.if-buffer-count.false (c.write.ensures ∙ ap (λ (ns : List ℕ). filled ns c.args.buffer.now) c.find.ensures)
 
 asked_by : (g : Over) (c : After-write g) →
-    let s = c.self.inside in
+    let s = c.self.inside.station in
     let q = c.args.query.now in
     step (state (g.S.Store.meaning s.store).records (g.S.Store.meaning s.store).most s.desk) (acts (length c.args.buffer.now) (asks c.args.ticket q.top q.path))
     ≡ (state (g.S.Store.meaning c.teach.new.store).records (g.S.Store.meaning c.teach.new.store).most c.grant.new.self, found (take c.len-count.result c.write.new.buffer))
 asked_by g c =
-    let s = c.self.inside in
+    let s = c.self.inside.station in
     let t = c.args.ticket in
     let n = c.args.query.now.top in
     let path = c.args.query.now.path in

@@ -10,15 +10,15 @@ use Rattle.sched.proofs.scheduler.Scheduler.in_order.Goals.{After-order-tickets}
 use Rattle.sched.proofs.scheduler.Scheduler.in_order.Goals as goal
 
 sequence : (g : Over) (c : After-order-tickets g) →
-    let s = c.self.inside in
+    let s = c.self.inside.station in
     listed c.order-tickets.result ≡ order (state (g.S.Store.meaning s.store).records (g.S.Store.meaning s.store).most s.desk)
 sequence g c =
-    let s = c.self.inside in
+    let s = c.self.inside.station in
     c.order-tickets.ensures (at_one_place (state (g.S.Store.meaning s.store).records (g.S.Store.meaning s.store).most s.desk) c.self.invariant c.if-not-self.false)
 
 pub returns-then-room-len-clause-rows : goal.returns-then-room-len-clause-rows
 returns-then-room-len-clause-rows g c =
-    let s = c.self.inside in
+    let s = c.self.inside.station in
     let m = state (g.S.Store.meaning s.store).records (g.S.Store.meaning s.store).most s.desk in
     let long = ap length (sequence g (goal.at.returns-then-room-len-clause-rows g c).After-order-tickets) in
     let count = c.len.ensures.value in
@@ -28,7 +28,7 @@ returns-then-room-len-clause-rows g c =
 
 pub returns-clause-rows : goal.returns-clause-rows
 returns-clause-rows g c =
-    let s = c.self.inside in
+    let s = c.self.inside.station in
     let m = state (g.S.Store.meaning s.store).records (g.S.Store.meaning s.store).most s.desk in
     let long = ap length (sequence g (goal.at.returns-clause-rows g c).After-order-tickets) in
     let count = c.len.ensures.value in

@@ -22,10 +22,10 @@ use Rattle.sched.proofs.scheduler.Scheduler.withdraw.Goals as goal
 
 -- the tickets in the list are those that fall
 listed_all : (g : Over) (c : After-free g) →
-    let s = c.self.inside in
+    let s = c.self.inside.station in
     c.as_slice-tickets.result.now ≡ fallen (state (g.S.Store.meaning s.store).records (g.S.Store.meaning s.store).most s.desk) c.args.ticket
 listed_all g c =
-    let s = c.self.inside in
+    let s = c.self.inside.station in
     let rs = (g.S.Store.meaning s.store).records in
     let limit = (g.S.Store.meaning s.store).most in
     let m = state rs limit s.desk in
@@ -34,7 +34,7 @@ listed_all g c =
 
 room_for : (g : Over) (c : After-free g) → length c.as_slice-tickets.result.now ≤ length c.args.buffer.now
 room_for g c =
-    let s = c.self.inside in
+    let s = c.self.inside.station in
     let rs = (g.S.Store.meaning s.store).records in
     let limit = (g.S.Store.meaning s.store).most in
     let m = state rs limit s.desk in
@@ -45,12 +45,12 @@ room_for g c =
     omega arith
 
 undone_by : (g : Over) (c : After-free g) →
-    let s = c.self.inside in
+    let s = c.self.inside.station in
     let m = state (g.S.Store.meaning s.store).records (g.S.Store.meaning s.store).most s.desk in
     step m (withdraws (length c.args.buffer.now) c.args.ticket)
     ≡ (state (g.S.Store.meaning c.forget.new.store).records (g.S.Store.meaning c.forget.new.store).most c.free.new.self, withdrawn (fallen m c.args.ticket))
 undone_by g c =
-    let s = c.self.inside in
+    let s = c.self.inside.station in
     let t = c.args.ticket in
     let room = length c.args.buffer.now in
     let x = g.S.Store.meaning s.store in
@@ -74,7 +74,7 @@ undone_by g c =
 
 pub invariant_of-self : goal.invariant_of-self
 invariant_of-self g c =
-    let s = c.self.inside in
+    let s = c.self.inside.station in
     let m = state (g.S.Store.meaning s.store).records (g.S.Store.meaning s.store).most s.desk in
     next_reached (withdraws (length c.args.buffer.now) c.args.ticket) (withdrawn (fallen m c.args.ticket)) (undone_by g (goal.at.invariant_of-self g c).After-free) c.self.invariant
 

@@ -7,10 +7,11 @@ ghost use Rattle.model.specs.Refusals.{add_rows, remove_rows};
 ghost use Rattle.model.specs.Calls.{step};
 ghost use Rattle.calls.specs.Answers.{add_answer, remove_answer};
 ghost use Rattle.desk.specs.States.{Judges};
-ghost use Rattle.sched.specs.Whole.{state_of};
+ghost use Rattle.sched.specs.Whole.{whole, Reached};
 ghost use Rattle.sched.specs.Judging.{but_last, At};
 
-use crate::scheduler::Scheduler;
+use crate::judging::{begins, rivals_of};
+use crate::station::Station;
 use book::lock::{Claim, Lock};
 use calls::reason::Reason;
 use tree::{ROOT, Record, Store, node_name};
@@ -18,13 +19,13 @@ use walks::choice::has_live_child;
 use walks::tags::{mark, teach};
 
 // A ticket and a node are what the rules name for an action; a struct would be made only to be taken apart.
-impl<S: Store> Scheduler<S> {
+impl<S: Store> Station<S> {
     // The place of the ticket, where all but a ring allows the add.
     fn may_add(&self, ticket: u32, node: u64, label: u16) -> Result<usize, Reason>
-        ensures rows { Judges (but_last (add_rows (state_of self.now) ticket node label)) result }
-        ensures place { IfOk result (At (state_of self.now) ticket) }
+        ensures rows { Judges (but_last (add_rows (whole S.Store.meaning self.now.store self.now.desk) ticket node label)) result }
+        ensures place { IfOk result (At (whole S.Store.meaning self.now.store self.now.desk) ticket) }
     {
-        let (place, _) = self.begins(ticket, node)?;
+        let (place, _) = begins(&self.store, &self.desk, ticket, node)?;
         if label == 0 {
             return Err(Reason::NoLabel);
         }
@@ -35,9 +36,9 @@ impl<S: Store> Scheduler<S> {
         Ok(place)
     }
 
-    // Makes a child of the node, and answers its name.
+    // Makes a child of the node, and answers its name. That the name is new is known where a history leads to the state.
     pub fn add(&mut self, ticket: u32, node: u64, label: u16) -> Result<u64, Reason>
-        ensures { (room : ℕ) → step (state_of self.old) (acts room (adds ticket node label)) ≡ (state_of self.new, add_answer result) }
+        ensures { ∥ Reached (whole S.Store.meaning self.old.store self.old.desk) ∥₁ → (room : ℕ) → step (whole S.Store.meaning self.old.store self.old.desk) (acts room (adds ticket node label)) ≡ (whole S.Store.meaning self.new.store self.new.desk, add_answer result) }
     {
         let place = self.may_add(ticket, node, label)?;
         let locks = [Lock::Write(node, Some(label))];
@@ -45,7 +46,7 @@ impl<S: Store> Scheduler<S> {
             place,
             locks: &locks,
         };
-        let rivals = self.rivals_of(claim)?;
+        let rivals = rivals_of(&self.store, &self.desk, claim)?;
         // The count fits: a ticket's additions stay in the store while it is open.
         let count = self.desk.seats.added_at(place).saturating_add(1);
         let name = node_name(ticket, count);
@@ -58,11 +59,11 @@ impl<S: Store> Scheduler<S> {
 
     // The place of the ticket and the record of the node, where all but a ring allows the remove.
     fn may_remove(&self, ticket: u32, node: u64) -> Result<(usize, Record), Reason>
-        ensures rows { Judges (but_last (remove_rows (state_of self.now) ticket node)) result }
-        ensures place { IfOk result (λ v. At (state_of self.now) ticket v.0) }
-        ensures node { IfOk result (λ v. look node self.now.store.records ≡ Some v.1) }
+        ensures rows { Judges (but_last (remove_rows (whole S.Store.meaning self.now.store self.now.desk) ticket node)) result }
+        ensures place { IfOk result (λ v. At (whole S.Store.meaning self.now.store self.now.desk) ticket v.0) }
+        ensures node { IfOk result (λ v. look node (S.Store.meaning self.now.store).records ≡ Some v.1) }
     {
-        let begun = self.begins(ticket, node)?;
+        let begun = begins(&self.store, &self.desk, ticket, node)?;
         if node == ROOT {
             return Err(Reason::Root);
         }
@@ -75,7 +76,7 @@ impl<S: Store> Scheduler<S> {
 
     // Takes the node out of the actual tree: it is marked, and dropped when the ticket finishes.
     pub fn remove(&mut self, ticket: u32, node: u64) -> Result<(), Reason>
-        ensures { (room : ℕ) → step (state_of self.old) (acts room (removes ticket node)) ≡ (state_of self.new, remove_answer result) }
+        ensures { (room : ℕ) → step (whole S.Store.meaning self.old.store self.old.desk) (acts room (removes ticket node)) ≡ (whole S.Store.meaning self.new.store self.new.desk, remove_answer result) }
     {
         let (place, record) = self.may_remove(ticket, node)?;
         let locks = [
@@ -86,7 +87,7 @@ impl<S: Store> Scheduler<S> {
             place,
             locks: &locks,
         };
-        let rivals = self.rivals_of(claim)?;
+        let rivals = rivals_of(&self.store, &self.desk, claim)?;
         mark(&mut self.store, node, ticket);
         self.desk.grant(claim, rivals);
         Ok(())
