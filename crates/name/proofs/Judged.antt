@@ -39,21 +39,21 @@ module _ (c : Classes) where
       (passes_byte (suc n) at b p.0 (omega arith))
       (following_pass (suc n) (at + 1) bs p.1 (omega arith))
 
-  judged_is_name : (at b : ℕ) (bs : List ℕ) → is_ok (bytes_check c 0 at (b ∷ bs)) ≡ true → IsName c (b ∷ bs)
+  pub judged_is_name : (at b : ℕ) (bs : List ℕ) → is_ok (bytes_check c 0 at (b ∷ bs)) ≡ true → IsName c (b ∷ bs)
   judged_is_name at b bs h =
       let p = then_parts (byte_check c 0 at b) (bytes_check c 1 (at + 1) bs) h in
       let q = byte_passes 0 at b p.0 in
       let t = others_follow 0 (at + 1) bs (omega arith) p.1 in
       (and_from _ _ q.0 t.0, omega (arith, t.1))
 
-  name_is_judged : (at b : ℕ) (bs : List ℕ) → IsName c (b ∷ bs) → is_ok (bytes_check c 0 at (b ∷ bs)) ≡ true
+  pub name_is_judged : (at b : ℕ) (bs : List ℕ) → IsName c (b ∷ bs) → is_ok (bytes_check c 0 at (b ∷ bs)) ≡ true
   name_is_judged at b bs (a, le) =
       let p = and_parts _ _ a in
       then_from (byte_check c 0 at b) (bytes_check c 1 (at + 1) bs)
       (passes_byte 0 at b p.0 (omega arith))
       (following_pass 0 (at + 1) bs p.1 (omega arith))
 
-  read_is_name : (at : ℕ) (bs : List ℕ) → is_ok (read_name c at bs) ≡ true → IsName c bs
+  pub read_is_name : (at : ℕ) (bs : List ℕ) → is_ok (read_name c at bs) ≡ true → IsName c bs
   read_is_name at [] h = absurd (false≢true h)
   read_is_name at (b ∷ bs) h = judged_is_name at b bs (then_parts (bytes_check c 0 at (b ∷ bs)) _ h).0
 

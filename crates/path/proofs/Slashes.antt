@@ -16,6 +16,16 @@ use Rattle.name.proofs.Fronts.{before_within}
 use Rattle.path.proofs.Onward.{item_ends, item_faults, item_goes_on}
 use Rattle.path.proofs.Pieces.{piece_stops}
 
+-- one slash, or two, stand at the front
+pub child_begins : (at : ℕ) (bs : List ℕ) → token_at at bs ≡ child → 0 < length bs
+child_begins at [] e = absurd (let z : ◌≡◌ {A = ℕ} 0 1 = cc in omega arith)
+child_begins at (b ∷ bs) e = omega arith
+
+pub deep_begins : (at : ℕ) (bs : List ℕ) → token_at at bs ≡ deep → 1 < length bs
+deep_begins at [] e = absurd (let z : ◌≡◌ {A = ℕ} 0 1 = cc in omega arith)
+deep_begins at (b ∷ []) e = grind (arith, nat_tests)
+deep_begins at (b ∷ d ∷ bs) e = omega arith
+
 module _ (c : Classes) where
   -- the bytes before the first slash are passed over
   pub passes_piece : (n at : ℕ) (bs : List ℕ) → steps_after c n at bs ≡ steps_after c n (at + length (piece bs)) (drop (length (piece bs)) bs)

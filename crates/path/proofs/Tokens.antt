@@ -1,15 +1,17 @@
 -- What the token at the front of a text says of the step that is read there.
 -- Assumes nothing.
-use Rattle.std.proofs.Common.{◌≡◌, ℕ, suc, ◌+◌, ◌<◌, true, false, List, [], ◌∷◌, length, drop, Ok, Err, refl, ap, ◌∙◌, arith, length-drop}
-use Rattle.std.proofs.lemmas.List.{drop-drop}
+use Rattle.std.proofs.Common.{◌≡◌, ℕ, suc, ◌+◌, ◌<◌, true, false, cond, ◌||◌, eqb, List, [], ◌∷◌, length, get_or, drop, Ok, Err, refl, ap, ◌∙◌, arith, length-drop}
+use Rattle.std.proofs.lemmas.List.{at_drop_more, drop-drop}
 use Rattle.std.proofs.lemmas.Bool.Decides.{nat_tests}
 use Rattle.byte_classes.specs.declared.classes.Classes.{Classes}
 use Rattle.name.specs.declared.fault.NameCause.TheVariants.{Byte}
+use Rattle.byte_classes.specs.Bytes.{begins, class_of}
 use Rattle.name.specs.Names.{Spot, fault, read_name}
+use Rattle.path.specs.declared.fault.PathFault.{PathFault}
 use Rattle.path.specs.declared.fault.PathFault.TheVariants as fault_in
 use Rattle.path.specs.declared.step.Test.TheVariants as test
 use Rattle.path.specs.Pieces.{piece, at_slash}
-use Rattle.path.specs.Reading.{in_path, onward, read_step, star_test, step_test}
+use Rattle.path.specs.Reading.{excess, in_path, onward, read_step, star_test, step_test}
 use Rattle.path.specs.Tokens.{name, star, slash, token_at}
 
 slash_is_no_star : (bs : List ℕ) → slash bs ≡ star → ⊥
@@ -74,3 +76,11 @@ module _ (c : Classes) where
       reads_none_not_ok : (xs : List ℕ) → Ok s ≡ read_name c a xs → length xs ≡ 0 → ⊥
       reads_none_not_ok [] ok z = let q : ◌≡◌ {A = ℕ} 0 1 = cc in omega arith
       reads_none_not_ok (x ∷ xs) ok z = omega arith
+
+  -- the fault of a step too many goes by its first byte
+  pub excess_at : (at : ℕ) (text : List ℕ) → at < length text
+      → excess c at (piece (drop at text)) ≡ cond (eqb (get_or text at 0) 47) (fault_in.Empty at) (cond (eqb (get_or text at 0) 42 || begins (class_of c (get_or text at 0))) (fault_in.Many at) (fault_in.Name (fault Byte at)))
+  excess_at at text h =
+      let F : List ℕ → PathFault = λ bs. excess c at (piece bs) in
+      let next : F (drop at text) ≡ F (get_or text at 0 ∷ drop (at + 1) text) = at_drop_more F text at 0 h in
+      grind (arith, nat_tests)

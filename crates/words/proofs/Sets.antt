@@ -2,10 +2,10 @@
 -- Assumes nothing.
 use Rattle.std.proofs.Common.{◌≡◌, ℕ, zero, suc, ◌+◌, ◌*◌, ◌/◌, ◌%◌, ◌^◌, ◌<◌, Bool, true, false, cond, ◌&&◌, ◌||◌, eqb, ltb, sym, refl, ap, ◌∙◌, ⊎_elim, mod-eq_of_lt, one-add, arith}
 use Rattle.std.proofs.lemmas.Nat.{mod-pow-add, pow-add, pow_below}
-use Rattle.std.proofs.lemmas.Bool.{cases_eq}
+use Rattle.std.proofs.lemmas.Bool.{cases_eq, cases_lt}
 use Rattle.std.proofs.lemmas.Bool.Decides.{nat_tests}
 use Rattle.words.specs.Words.{bit, word_below, word_of}
-use Rattle.words.proofs.Bits.{bit-or, bit_none, bit_one}
+use Rattle.words.proofs.Bits.{bit-or, bit_none, bit_one, bit_past}
 
 bit_below : (k : ℕ) (f : ℕ → Bool) (i : ℕ) → bit (word_below k f) i ≡ (ltb i k && f i)
 bit_below zero f i = let z = bit_none i in grind (arith, nat_tests)
@@ -53,3 +53,10 @@ word_same v w h =
     let d : v < 2 ^ (v + w) = ⊎_elim (λ e. let x = ap (λ (n : ℕ). 2 ^ n) e in omega arith) (λ ne. let x = pow_below v (v + w) (omega arith) in omega arith) (cases_eq v (v + w)) in
     let f : w < 2 ^ (v + w) = ⊎_elim (λ e. let x = ap (λ (n : ℕ). 2 ^ n) e in omega arith) (λ ne. let x = pow_below w (v + w) (omega arith) in omega arith) (cases_eq w (v + w)) in
     sym (mod-eq_of_lt d) ∙ (same_low (v + w) v w h ∙ mod-eq_of_lt f)
+
+-- a word is the word of its places
+pub word_bits : (w : ℕ) → w < 4294967296 → word_of (bit w) ≡ w
+word_bits w h = word_same (word_of (bit w)) w (λ i. bit_word (bit w) i ∙ below i)
+  where
+    below : (i : ℕ) → (ltb i 32 && bit w i) ≡ bit w i
+    below i = ⊎_elim (λ low. grind (arith, nat_tests)) (λ high. let z = bit_past w 32 i h high in grind (arith, nat_tests)) (cases_lt i 32)
