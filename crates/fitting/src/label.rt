@@ -1,6 +1,13 @@
 // Labels, which fitting only compares.
-ghost use Rattle.std.specs.Prelude.{◌≡◌, Bool, true};
+ghost use Rattle.std.specs.Prelude.{◌≡◌, Bool, true, nat_eq, refl};
+ghost use Rattle.std.specs.Str.{bytes_eq};
+ghost use Rattle.name.specs.Names.{spot};
+ghost use Rattle.std.proofs.Common.{rules};
+ghost use Rattle.std.proofs.lemmas.Slice.Eq.{bytes_eq-Decides};
 
+use name::name::Name;
+
+// No impl for whatever is compared by `==`: a type that is could then give no other test.
 pub trait Label {
     // Whether two are the same label.
     ghost same: { Self → Self → Bool };
@@ -12,13 +19,24 @@ pub trait Label {
     ghost reflexive: { (x : Self) → same x x ≡ true };
 }
 
-// A label's code in the tree, a label written out, and whatever else is compared by `==`.
-impl<L: Eq> Label for L {
-    ghost same = { L.eq };
+// A label's code in the tree.
+impl Label for u16 {
+    ghost same = { nat_eq };
 
-    ghost reflexive = { L.Eq.laws.refl };
+    ghost reflexive = { Prim.search rules };
 
-    fn is_label(&self, other: &L) -> bool {
+    fn is_label(&self, other: &u16) -> bool {
+        *self == *other
+    }
+}
+
+// A label written out, wherever it was written.
+impl Label for Name {
+    ghost same = { λ x y. bytes_eq (spot x).bytes (spot y).bytes };
+
+    ghost reflexive = { λ x. (bytes_eq-Decides (spot x).bytes (spot x).bytes).1 refl };
+
+    fn is_label(&self, other: &Name) -> bool {
         self == other
     }
 }
